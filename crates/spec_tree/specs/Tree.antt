@@ -9,7 +9,7 @@
 -- | length  |                4 | number of data bytes, little-endian                    |
 -- | data    |        0 to 8192 | the block's bytes                                      |
 -- | padding | the rest of 8192 | zeros; none for the one block of the empty blob        |
-use Rattle.std.specs.Prelude.{ℕ, zero, suc, ◌+◌, ◌-◌, ◌*◌, ◌==◌, nat_le, if◌then◌else◌, max, List, [], ◌∷◌, ◌++◌, length, take, drop, map, sum, replicate, bit_or}
+use Rattle.std.specs.Prelude.{ℕ, zero, suc, ◌+◌, ◌-◌, ◌*◌, ◌==◌, nat_le, if◌then◌else◌, max, List, [], ◌∷◌, ◌++◌, length, take, drop, map, sum_by, replicate, bit_or}
 use Rattle.std.specs.List.{range_with_len, flat_map}
 use Rattle.std.specs.Int.{w32, w64, to_le_bytes, div_ceil}
 use Rattle.sha2.specs.Sha256.{sha256}
@@ -94,11 +94,11 @@ digests_at size (suc level) = div_ceil (digests_at size level) 256
 
 -- version 1 of the format: each level above level 0 fills blocks of its own, one for each digest
 abbrev pub padded_tree_blocks : ℕ → ℕ
-padded_tree_blocks size = sum (map (digests_at size) (range_with_len 1 (levels_of size)))
+padded_tree_blocks size = sum_by (digests_at size) (range_with_len 1 (levels_of size))
 
 -- the digests that all levels above level 0 hold: those of each level but the highest
 abbrev pub held_digests : ℕ → ℕ
-held_digests size = sum (map (digests_at size) (range_with_len 0 (levels_of size)))
+held_digests size = sum_by (digests_at size) (range_with_len 0 (levels_of size))
 
 -- version 2: these digests stand joined, 256 to a block
 abbrev pub compact_tree_blocks : ℕ → ℕ

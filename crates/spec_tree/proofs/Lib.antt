@@ -1,0 +1,2 @@
+pub mod SizesLemmas
+pub mod TreeLemmas
