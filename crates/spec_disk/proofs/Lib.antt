@@ -1,0 +1,4 @@
+pub mod EventLemmas
+pub mod ImageLemmas
+pub mod ReadLemmas
+pub mod SyncedLemmas

@@ -7,8 +7,12 @@ use Rattle.std.specs.Prelude.{ℕ, ◌*◌, List, [], ◌∷◌, length, take, d
 use Rattle.spec_disk.specs.declared.event.Event.{Event}
 use Rattle.spec_disk.specs.declared.event.Event.TheVariants.{Write, Sync}
 
+-- a disk
+abbrev pub Blocks : Type 0
+Blocks = List (List ℕ)
+
 -- block b of a disk
-abbrev pub block : List (List ℕ) → ℕ → List ℕ
+abbrev pub block : Blocks → ℕ → List ℕ
 block disk b = slice_index_or disk b []
 
 -- sector s of a block
@@ -16,14 +20,14 @@ abbrev pub sector : List ℕ → ℕ → List ℕ
 sector bytes s = take 512 (drop (512 * s) bytes)
 
 -- Now: the disk with every Ok write applied, in order
-abbrev pub now_after : List (List ℕ) → List Event → List (List ℕ)
+abbrev pub now_after : Blocks → List Event → Blocks
 now_after base [] = base
 now_after base (Write at bytes true ∷ p) = now_after (slice_set base at bytes) p
 now_after base (Write at bytes false ∷ p) = now_after base p
 now_after base (Sync ok ∷ p) = now_after base p
 
 -- Last: the disk with every write applied, in order, failed ones too
-abbrev pub last_after : List (List ℕ) → List Event → List (List ℕ)
+abbrev pub last_after : Blocks → List Event → Blocks
 last_after base [] = base
 last_after base (Write at bytes ok ∷ p) = last_after (slice_set base at bytes) p
 last_after base (Sync ok ∷ p) = last_after base p
@@ -45,7 +49,7 @@ abbrev pub unsynced_part : List Event → List Event
 unsynced_part p = drop (length (synced_part p)) p
 
 -- Synced: what the disk was at the last Ok sync; before the first, the base
-abbrev pub synced_after : List (List ℕ) → List Event → List (List ℕ)
+abbrev pub synced_after : Blocks → List Event → Blocks
 synced_after base p = now_after base (synced_part p)
 
 -- whether the last of these events that tells of block b leaves it readable, `right` where none does: a write tells by

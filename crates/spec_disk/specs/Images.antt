@@ -5,7 +5,7 @@
 use Rattle.std.specs.Prelude.{◌≡◌, ℕ, List, [], ◌∷◌, length, map, if◌then◌else◌, ◌==◌, Contains}
 use Rattle.spec_disk.specs.declared.event.Event.{Event}
 use Rattle.spec_disk.specs.declared.event.Event.TheVariants.{Write, Sync}
-use Rattle.spec_disk.specs.Disk.{block, sector, unsynced_part, synced_after}
+use Rattle.spec_disk.specs.Disk.{Blocks, block, sector, unsynced_part, synced_after}
 
 -- what these events write to block b, in order, failed writes included
 abbrev pub written_to : ℕ → List Event → List (List ℕ)
@@ -18,11 +18,11 @@ abbrev pub pending : List Event → ℕ → List (List ℕ)
 pending p b = written_to b (unsynced_part p)
 
 -- what a stop may leave in sector s of block b: its synced value, then the values written since, in order
-abbrev pub candidates : List (List ℕ) → List Event → ℕ → ℕ → List (List ℕ)
+abbrev pub candidates : Blocks → List Event → ℕ → ℕ → List (List ℕ)
 candidates base p b s = map (λ bytes. sector bytes s) (block (synced_after base p) b ∷ pending p b)
 
 -- Images: a stop after these events may leave j. Past a block's last sector every sector is empty.
-pub record IsImage (base : List (List ℕ)) (p : List Event) (j : List (List ℕ)) : Type 0 where
+pub record IsImage (base : Blocks) (p : List Event) (j : Blocks) : Type 0 where
   pub as_long : length j ≡ length base
   pub each_sector : (b s : ℕ) → Contains (candidates base p b s) (sector (block j b) s)
 
