@@ -1,4 +1,5 @@
 pub mod EventLemmas
 pub mod ImageLemmas
+pub mod ProgramLemmas
 pub mod ReadLemmas
 pub mod SyncedLemmas

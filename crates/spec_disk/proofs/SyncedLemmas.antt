@@ -77,3 +77,7 @@ IsSyncedPart-only p q part =
     let down : length (synced_part p) ≤ length q = part.longest (synced_part p) (unsynced_part p) (sym (synced-append-unsynced p)) (EndsSynced-synced_part p) in
     let size : length q ≡ length (synced_part p) = omega (arith, up, down) in
     sym (prefix_is_take p q (part.prefix.0) (part.prefix.1)) ∙ ap (λ (n : ℕ). take n p) size ∙ prefix_is_take p (synced_part p) (unsynced_part p) (sym (synced-append-unsynced p))
+
+-- the synced part is that many events from the front
+pub take-synced_len : (p : List Event) (n : ℕ) → n ≡ length (synced_part p) → take n p ≡ synced_part p
+take-synced_len p n is = ap (λ (k : ℕ). take k p) is ∙ prefix_is_take p (synced_part p) (unsynced_part p) (sym (synced-append-unsynced p))

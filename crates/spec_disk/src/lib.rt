@@ -2,12 +2,16 @@
 #![tactic(auto)]
 
 mod event;
+mod image;
 mod laws;
+mod now;
 
 pub use event::Event;
+pub use image::is_image;
 pub use laws::{
     a_failure_leaves_known_images, a_settled_disk_has_one_image, a_sync_leaves_now,
     a_write_changes_sectors_of_its_block, an_unwritten_block_is_as_synced,
     no_event_leaves_the_base, reads_are_wrong_after_a_failed_write, synced_and_now_are_images,
     synced_part_is_the_longest,
 };
+pub use now::{Block, now_of, synced_len, synced_of};
