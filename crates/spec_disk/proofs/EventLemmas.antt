@@ -115,6 +115,13 @@ candidates-push base p e b s none =
     rw (synced_after-push base p e none, pending-push p e b none)
     (ap (λ (q : List (List ℕ)). sector (block (synced_after base p) b) s ∷ q) (map-append (λ (w : List ℕ). sector w s) (pending p b) (written_to b (e ∷ []))))
 
+-- a write adds its bytes to what is written to its block
+pub map-written_one : {X : Type 0} (f : List ℕ → X) (at : ℕ) (bytes : List ℕ) (ok : Bool) (b : ℕ) → map f (written_to b (Write at bytes ok ∷ [])) ≡ cond (eqb at b) (f bytes ∷ []) []
+map-written_one f at bytes ok b = elim (eqb at b) as (λ t. map f (cond t (bytes ∷ []) []) ≡ cond t (f bytes ∷ []) []) [ true ↦ refl | false ↦ refl ]
+
+pub candidates-push_write : (base : List (List ℕ)) (p : List Event) (at : ℕ) (bytes : List ℕ) (ok : Bool) (b s : ℕ) → candidates base (p ++ Write at bytes ok ∷ []) b s ≡ candidates base p b s ++ cond (eqb at b) (sector bytes s ∷ []) []
+candidates-push_write base p at bytes ok b s = candidates-push base p (Write at bytes ok) b s refl ∙ ap (λ (q : List (List ℕ)). candidates base p b s ++ q) (map-written_one (λ w. sector w s) at bytes ok b)
+
 pub candidates-push_failed_sync : (base : List (List ℕ)) (p : List Event) (b s : ℕ) → candidates base (p ++ Sync false ∷ []) b s ≡ candidates base p b s
 candidates-push_failed_sync base p b s = candidates-push base p (Sync false) b s refl ∙ append-nil (candidates base p b s)
 

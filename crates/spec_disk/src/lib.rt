@@ -5,6 +5,7 @@ mod event;
 mod image;
 mod laws;
 mod now;
+mod one_event_more;
 
 pub use event::Event;
 pub use image::is_image;
@@ -15,3 +16,10 @@ pub use laws::{
     synced_part_is_the_longest,
 };
 pub use now::{Block, now_of, synced_len, synced_of};
+pub use one_event_more::{
+    candidates_with_one_event_more, last_with_one_event_more, now_with_one_event_more,
+    pending_with_one_event_more, reads_with_one_event_more, synced_with_one_event_more,
+};
+
+#[cfg(test)]
+mod tests;
