@@ -16,7 +16,7 @@ LastIsSync q = (r : List Event) × (q ≡ r ++ Sync true ∷ [])
 LastIsSync-cons : (e : Event) (q : List Event) → LastIsSync q → LastIsSync (e ∷ q)
 LastIsSync-cons e q (r, is) = (e ∷ r, ap (λ (x : List Event). e ∷ x) is)
 
-synced_part-none : (p : List Event) → has_sync p ≡ false → synced_part p ≡ []
+pub synced_part-none : (p : List Event) → has_sync p ≡ false → synced_part p ≡ []
 synced_part-none [] none = refl
 synced_part-none (e ∷ p) none = ap (λ (t : Bool). cond t (e ∷ synced_part p) []) none
 

@@ -1,5 +1,5 @@
 -- The words in which the laws of the disk are said.
-use Rattle.std.specs.Prelude.{◌≡◌, ◌⊎◌, ◌≤◌, ℕ, List, [], ◌∷◌, ◌++◌, length, true, false, Contains}
+use Rattle.std.specs.Prelude.{◌≡◌, ◌⊎◌, ◌≤◌, ℕ, List, [], ◌∷◌, ◌++◌, length, true, false, Contains, All}
 use Rattle.spec_disk.specs.declared.event.Event.{Event}
 use Rattle.spec_disk.specs.declared.event.Event.TheVariants.{Write, Sync}
 use Rattle.spec_disk.specs.Disk.{Blocks, block, sector, has_sync}
@@ -28,3 +28,13 @@ pub record FailedLast (p : List Event) (b : ℕ) : Type 0 where
   pub is : p ≡ before ++ Write b bytes false ∷ after
   pub no_sync : has_sync after ≡ false
   pub no_write : written_to b after ≡ []
+
+-- every block of the disk has 8,192 bytes
+abbrev pub AreWhole : Blocks → Type 0
+AreWhole disk = All (λ bytes. length bytes ≡ 8192) disk
+
+-- every write of these events has 8,192 bytes
+abbrev pub WriteWhole : List Event → Type 0
+WriteWhole [] = Unit {0}
+WriteWhole (Write at bytes ok ∷ p) = (length bytes ≡ 8192) × WriteWhole p
+WriteWhole (Sync ok ∷ p) = WriteWhole p

@@ -1,12 +1,12 @@
 //! The laws that show the definitions of the disk to be meant right: each is the contract of a function that does
 //! nothing.
 
-ghost use Rattle.std.specs.Prelude.{◌≡◌, ◌≢◌, ◌↔◌, ℕ, List, [], ◌∷◌, ◌++◌, length, Bool, true, false, slice_set};
+ghost use Rattle.std.specs.Prelude.{◌≡◌, ◌≢◌, ◌⊎◌, ◌↔◌, ℕ, List, [], ◌∷◌, ◌++◌, length, Bool, true, false, slice_set};
 ghost use Rattle.spec_disk.specs.declared.event.Event.{Event};
 ghost use Rattle.spec_disk.specs.declared.event.Event.TheVariants.{Write, Sync};
-ghost use Rattle.spec_disk.specs.Disk.{Blocks, block, now_after, synced_part, unsynced_part, synced_after, reads_right};
+ghost use Rattle.spec_disk.specs.Disk.{Blocks, block, sector, has_sync, now_after, synced_part, unsynced_part, synced_after, reads_right};
 ghost use Rattle.spec_disk.specs.Images.{pending, IsImage, IsSettled};
-ghost use Rattle.spec_disk.specs.Laws.{IsSyncedPart, IsImageWith, FailedLast};
+ghost use Rattle.spec_disk.specs.Laws.{IsSyncedPart, IsImageWith, FailedLast, AreWhole, WriteWhole};
 
 /// The synced part is the longest prefix that ends with an Ok sync or is empty, and the only such one.
 pub fn synced_part_is_the_longest()
@@ -68,4 +68,38 @@ pub fn a_failure_leaves_known_images()
 /// A read may give something else than Now only where the block's last write failed with no Ok sync after it.
 pub fn reads_are_wrong_after_a_failed_write()
     ensures { (p : List Event) (b : ℕ) → (reads_right p b ≡ false) ↔ FailedLast p b }
+{}
+
+/// From a settled disk on, what matters of the past is what the disk is now.
+pub fn a_settled_disk_goes_on_as_it_is()
+    ensures { (base j : Blocks) (p q : List Event)
+        → IsSettled p → IsImage base (p ++ q) j ↔ IsImage (now_after base p) q j }
+{}
+
+/// Until a sync is Ok, no image is lost.
+pub fn an_image_stays_until_a_sync()
+    ensures { (base j : Blocks) (p q : List Event)
+        → has_sync q ≡ false → IsImage base p j → IsImage base (p ++ q) j }
+{}
+
+/// A write that changes one sector of its block is done or not.
+pub fn a_write_of_one_sector_is_done_or_not()
+    ensures { (base j : Blocks) (p : List Event) (b t : ℕ) (bytes : List ℕ)
+        → pending p b ≡ bytes ∷ []
+        → ((s : ℕ) → s ≢ t → sector bytes s ≡ sector (block (synced_after base p) b) s)
+        → IsImage base p j
+        → (block j b ≡ block (synced_after base p) b) ⊎ (block j b ≡ bytes) }
+{}
+
+/// A write of what Synced has there changes no image.
+pub fn a_write_of_what_is_synced_changes_nothing()
+    ensures { (base j : Blocks) (p : List Event) (at : ℕ) (ok : Bool)
+        → IsImage base (p ++ Write at (block (synced_after base p) at) ok ∷ []) j
+        ↔ IsImage base p j }
+{}
+
+/// Where every block and every write has 8,192 bytes, every block of an image has.
+pub fn an_image_has_whole_blocks()
+    ensures { (base j : Blocks) (p : List Event)
+        → AreWhole base → WriteWhole p → IsImage base p j → AreWhole j }
 {}
