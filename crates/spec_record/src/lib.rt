@@ -1,0 +1,28 @@
+//! What the bytes of each record on disk stand for.
+#![tactic(auto)]
+
+mod container;
+mod entry_fault;
+mod extent;
+mod field_name;
+mod geometry;
+mod info;
+mod info_fault;
+mod inode;
+mod node;
+mod node_fault;
+mod super_fault;
+mod superblock;
+
+pub use container::Container;
+pub use entry_fault::EntryFault;
+pub use extent::Extent;
+pub use field_name::FieldName;
+pub use geometry::Geometry;
+pub use info::Info;
+pub use info_fault::InfoFault;
+pub use inode::Inode;
+pub use node::Node;
+pub use node_fault::NodeFault;
+pub use super_fault::SuperFault;
+pub use superblock::Super;
