@@ -1,0 +1,9 @@
+-- What the bytes of each record on disk stand for.
+pub mod Field
+pub mod Tests
+pub mod Geometry
+pub mod Bitmap
+pub mod Extent
+pub mod Node
+pub mod NodeBytes
+pub mod Superblock
