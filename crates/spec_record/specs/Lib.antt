@@ -7,3 +7,7 @@ pub mod Extent
 pub mod Node
 pub mod NodeBytes
 pub mod Superblock
+pub mod Crc
+pub mod Info
+pub mod Entry
+pub mod EntryBlocks
