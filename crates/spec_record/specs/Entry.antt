@@ -27,7 +27,7 @@
 -- A reader refuses by the first of these that fails: magic, number, kind, count, the places of the
 -- targets in order, the header's reserved fields, commit, checksum. In the fault of a checksum the
 -- wanted one is the stored one, and the found one that of the blocks.
-use Rattle.std.specs.Prelude.{◌+◌, ◌-◌, ◌*◌, ◌^◌, ℕ, zero, suc, Bool, not, ◌&&◌, ◌||◌, ◌==◌, nat_lt, nat_le, if◌then◌else◌, List, [], ◌∷◌, ◌++◌, length, take, drop, slice_index_or, is_none, unwrap_or, Option, Some, None, Result}
+use Rattle.std.specs.Prelude.{◌+◌, ◌-◌, ◌^◌, ℕ, Bool, ◌&&◌, ◌==◌, nat_le, if◌then◌else◌, List, [], ◌∷◌, ◌++◌, length, take, drop, is_none, unwrap_or, Option, Result}
 use Rattle.std.specs.List.{concat}
 use Rattle.std.specs.Result.{result_ok}
 use Rattle.spec_record.specs.declared.entry_fault.EntryFault.{EntryFault}
@@ -35,6 +35,7 @@ use Rattle.spec_record.specs.declared.entry_fault.EntryFault.TheVariants as faul
 use Rattle.spec_record.specs.Field.{field, bytes_of}
 use Rattle.spec_record.specs.Tests.{value_or_fault, is_between}
 use Rattle.spec_record.specs.Crc.{crc32}
+use Rattle.spec_record.specs.Places.{entry_magic, block_in, begins_with_magic, target_in, flag_in, wrong_place}
 
 -- what an entry does: it gives metadata blocks new bytes
 pub record Entry : Type 0 where
@@ -42,63 +43,9 @@ pub record Entry : Type 0 where
   -- each payload's target, the metadata block that it replaces, and the bytes
   pub targets : List (ℕ × List ℕ)
 
-abbrev pub entry_magic : ℕ
-entry_magic = 0x626c6f626e747279
-
--- the places that a header has for targets and for flags
-unfoldable pub header_places : ℕ
-header_places = 679
-
--- the block at a place of a list
-abbrev pub block_in : List (List ℕ) → ℕ → List ℕ
-block_in blocks place = slice_index_or blocks place []
-
-abbrev pub begins_with_magic : List ℕ → Bool
-begins_with_magic block = field block 0 8 == entry_magic
-
--- the target and the flag at a place of a header
-abbrev pub target_in : List ℕ → ℕ → ℕ
-target_in header place = field header (40 + 8 * place) 8
-
-abbrev pub flag_in : List ℕ → ℕ → ℕ
-flag_in header place = field header (5472 + 4 * place) 4
-
 -- a payload as it was, from its flag and the stored block
 unfoldable pub restored : ℕ → List ℕ → List ℕ
 restored flag block = if flag == 1 then bytes_of 8 entry_magic ++ drop 8 block else block
-
--- a flag is 1 over eight zeros, or 0 over no magic
-abbrev pub is_escape : ℕ → List ℕ → Bool
-is_escape flag block =
-    ((flag == 1) && (field block 0 8 == 0)) || ((flag == 0) && not (begins_with_magic block))
-
--- a used place: its target is above the one before and below M, its flag fits the stored payload
-abbrev pub is_used_place : List ℕ → ℕ → ℕ → List ℕ → Bool
-is_used_place header meta place payload =
-    ((place == 0) || nat_lt (target_in header (place - 1)) (target_in header place))
-    && nat_lt (target_in header place) meta
-    && is_escape (flag_in header place) payload
-
-abbrev pub is_unused_place : List ℕ → ℕ → Bool
-is_unused_place header place = (target_in header place == 0) && (flag_in header place == 0)
-
--- a place of the header is as the count asks for; the payloads stand after the header
-abbrev pub is_place : List (List ℕ) → ℕ → ℕ → Bool
-is_place blocks meta place =
-    let header = block_in blocks 0 in
-    if nat_lt place (field header 32 8)
-    then is_used_place header meta place (block_in blocks (place + 1))
-    else is_unused_place header place
-
--- the first number at which a test fails, among `count` numbers from `start` on
-unfoldable pub first_failing : (ℕ → Bool) → ℕ → ℕ → Option ℕ
-first_failing test start zero = None
-first_failing test start (suc count) =
-    if test start then first_failing test (start + 1) count else Some start
-
--- the first place of the header that is wrong
-abbrev pub wrong_place : List (List ℕ) → ℕ → Option ℕ
-wrong_place blocks meta = first_failing (is_place blocks meta) 0 header_places
 
 -- a commit of this number, whatever its checksum
 abbrev pub is_commit : List ℕ → ℕ → Bool

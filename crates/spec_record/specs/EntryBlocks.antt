@@ -5,7 +5,8 @@ use Rattle.std.specs.List.Sorted.{IsStrictlyIncreasing}
 use Rattle.spec_record.specs.Field.{IsBlock, bytes_of, spelled}
 use Rattle.spec_record.specs.Tests.{IsBetween}
 use Rattle.spec_record.specs.Crc.{crc32}
-use Rattle.spec_record.specs.Entry.{Entry, entry_magic, header_places, begins_with_magic, entry_of}
+use Rattle.spec_record.specs.Places.{entry_magic, header_places, begins_with_magic}
+use Rattle.spec_record.specs.Entry.{Entry, entry_of}
 
 -- an entry that some blocks spell in a volume of M metadata blocks
 pub record IsEntry (meta : ℕ) (e : Entry) : Type 0 where

@@ -9,5 +9,7 @@ pub mod NodeBytes
 pub mod Superblock
 pub mod Crc
 pub mod Info
+pub mod Places
 pub mod Entry
 pub mod EntryBlocks
+pub mod Laws
