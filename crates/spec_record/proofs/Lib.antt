@@ -2,3 +2,8 @@
 pub mod FieldLemmas
 pub mod TestLemmas
 pub mod SuperLemmas
+pub mod CrcLemmas
+pub mod InfoLemmas
+pub mod ExtentLemmas
+pub mod ZeroLemmas
+pub mod NodeLemmas

@@ -1,5 +1,5 @@
 -- Tests in order: a value comes exactly where each holds.
-use Rattle.std.proofs.Common.{◌≡◌, ◌≤◌, ℕ, List, [], ◌∷◌, Bool, true, false, cond, eqb, leb, ◌&&◌, Some, Result, Ok, Err, refl, arith}
+use Rattle.std.proofs.Common.{◌≡◌, ◌<◌, ◌≤◌, ℕ, List, [], ◌∷◌, Bool, true, false, cond, eqb, ltb, leb, ◌&&◌, Some, Result, Ok, Err, refl, arith}
 use Rattle.std.specs.Result.{result_ok}
 use Rattle.spec_record.specs.Tests.{value_or_fault, IsBetween, is_between}
 
@@ -52,6 +52,12 @@ eqb_same a b e = grind (arith, e)
 
 pub leb_true : (a b : ℕ) → a ≤ b → leb a b ≡ true
 leb_true a b e = grind (arith, e)
+
+pub below_of : (a b : ℕ) → ltb a b ≡ true → a < b
+below_of a b e = grind (arith, e)
+
+pub ltb_true : (a b : ℕ) → a < b → ltb a b ≡ true
+ltb_true a b e = grind (arith, e)
 
 pub both : (a b : Bool) → a ≡ true → b ≡ true → (a && b) ≡ true
 both a b e f = rw (e, f) refl

@@ -9,6 +9,11 @@ use Rattle.spec_record.specs.Field.{IsBytes, number_of, spelled}
 use Rattle.spec_record.specs.Tests.{IsBetween}
 use Rattle.spec_record.specs.Extent.{extent_number, FitsExtent}
 
+-- a place of the node map is 64 bytes
+pub record IsPlace (bytes : List ℕ) : Type 0 where
+  pub length_is : length bytes ≡ 64
+  pub bytes_fit : IsBytes bytes
+
 -- an unused place for an extent
 abbrev pub IsUnused : Extent → Type 0
 IsUnused extent = extent ≡ record { start = 0; len = 0 }

@@ -1,10 +1,46 @@
 //! The laws of the records: each function's contract is a law over the definitions.
 
-ghost use Rattle.spec_record.specs.Laws.{SuperIsRead, SuperIsBlock, SuperIsOne};
+ghost use Rattle.spec_record.specs.Laws.{
+  SuperIsRead,
+  SuperIsBlock,
+  SuperIsOne,
+  InfoIsRead,
+  InfoIsBlock,
+  InfoIsOne,
+  NodeIsRead,
+  NodeIsPlace,
+  NodeIsOne,
+  ExtentIsRead,
+  CrcHasCheckValue,
+};
 
 /// A superblock has one spelling, and no other block is read as it.
 pub fn superblocks_are_read_from_their_spelling_alone()
     ensures read { SuperIsRead }
     ensures block { SuperIsBlock }
     ensures one { SuperIsOne }
+{}
+
+/// An info block has one spelling, and no other block is read as it.
+pub fn infos_are_read_from_their_spelling_alone()
+    ensures read { InfoIsRead }
+    ensures block { InfoIsBlock }
+    ensures one { InfoIsOne }
+{}
+
+/// A node has one spelling, and no other 64 bytes are read as it.
+pub fn nodes_are_read_from_their_spelling_alone()
+    ensures read { NodeIsRead }
+    ensures place { NodeIsPlace }
+    ensures one { NodeIsOne }
+{}
+
+/// An extent has one spelling, and no other eight bytes are read as it.
+pub fn extents_are_read_from_their_spelling_alone()
+    ensures { ExtentIsRead }
+{}
+
+/// CRC-32 gives its published check value.
+pub fn crc32_has_the_check_value()
+    ensures { CrcHasCheckValue }
 {}
