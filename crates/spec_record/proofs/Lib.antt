@@ -7,3 +7,9 @@ pub mod InfoLemmas
 pub mod ExtentLemmas
 pub mod ZeroLemmas
 pub mod NodeLemmas
+pub mod TableLemmas
+pub mod PayloadLemmas
+pub mod PlaceLemmas
+pub mod ReadEntry
+pub mod SpelledEntry
+pub mod EntryLemmas

@@ -1,5 +1,5 @@
 -- Tests in order: a value comes exactly where each holds.
-use Rattle.std.proofs.Common.{◌≡◌, ◌<◌, ◌≤◌, ℕ, List, [], ◌∷◌, Bool, true, false, cond, eqb, ltb, leb, ◌&&◌, Some, Result, Ok, Err, refl, arith}
+use Rattle.std.proofs.Common.{◌≡◌, ◌<◌, ◌≤◌, ℕ, List, [], ◌∷◌, Bool, true, false, cond, eqb, ltb, leb, ◌&&◌, ◌||◌, ◌⊎◌, inl, inr, Some, Result, Ok, Err, refl, arith}
 use Rattle.std.specs.Result.{result_ok}
 use Rattle.spec_record.specs.Tests.{value_or_fault, IsBetween, is_between}
 
@@ -59,8 +59,15 @@ below_of a b e = grind (arith, e)
 pub ltb_true : (a b : ℕ) → a < b → ltb a b ≡ true
 ltb_true a b e = grind (arith, e)
 
+pub ltb_false : (a b : ℕ) → b ≤ a → ltb a b ≡ false
+ltb_false a b e = grind (arith, e)
+
 pub both : (a b : Bool) → a ≡ true → b ≡ true → (a && b) ≡ true
 both a b e f = rw (e, f) refl
+
+pub either : (a b : Bool) → (a || b) ≡ true → (a ≡ true) ⊎ (b ≡ true)
+either true b e = inl refl
+either false b e = inr e
 
 pub between : (low number high : ℕ) → is_between low number high ≡ true → IsBetween low number high
 between low number high e =

@@ -1,7 +1,7 @@
 -- The laws of the records. A block or node of a record is read as a value exactly where the value is
 -- within its ranges and the bytes are its spelling; so a value has one spelling, and no other bytes
 -- are read as it.
-use Rattle.std.specs.Prelude.{◌≡◌, ◌≤◌, ◌↔◌, ◌^◌, ℕ, List, length, Some, codes}
+use Rattle.std.specs.Prelude.{◌≡◌, ◌≤◌, ◌↔◌, ◌^◌, ℕ, List, length, take, All, Some, codes}
 use Rattle.spec_record.specs.declared.superblock.Super.{Super}
 use Rattle.spec_record.specs.declared.extent.Extent.{Extent}
 use Rattle.spec_record.specs.declared.node.Node.{Node}
@@ -14,6 +14,8 @@ use Rattle.spec_record.specs.Geometry.{total_blocks}
 use Rattle.spec_record.specs.Superblock.{super_of, IsSuper, super_bytes}
 use Rattle.spec_record.specs.Crc.{crc32}
 use Rattle.spec_record.specs.Info.{info_of, IsInfo, info_bytes}
+use Rattle.spec_record.specs.Entry.{Entry, entry_of}
+use Rattle.spec_record.specs.EntryBlocks.{IsEntry, entry_blocks, entry_slots}
 
 -- these bytes spell a superblock whose volume fits on a device of so many blocks
 pub record SpellsSuper (bytes : List ℕ) (device_blocks : ℕ) (s : Super) : Type 0 where
@@ -85,6 +87,33 @@ ExtentIsRead =
     → blocks ≤ 2 ^ 48
     → (extent_of bytes blocks ≡ Some extent)
     ↔ (IsExtent blocks extent × (bytes ≡ extent_bytes extent))
+
+-- these blocks begin with the spelling of an entry of this number, in a volume of M metadata blocks
+pub record SpellsEntry (blocks : List (List ℕ)) (number meta : ℕ) (e : Entry) : Type 0 where
+  pub number_is : e.number ≡ number
+  pub lawful : IsEntry meta e
+  pub blocks_are : take (entry_slots e) blocks ≡ entry_blocks e
+
+-- an entry is read from blocks that begin with its spelling, and from no others; a header has 679
+-- places
+abbrev pub EntryIsRead : Type 0
+EntryIsRead =
+    (blocks : List (List ℕ)) (number meta : ℕ) (e : Entry) → All IsBlock blocks → meta ≤ 679
+    → (entry_of blocks number meta ≡ Some e) ↔ SpellsEntry blocks number meta e
+
+-- an entry takes whole blocks, as many as slots
+pub record TakesSlots (e : Entry) : Type 0 where
+  pub slots : length (entry_blocks e) ≡ entry_slots e
+  pub blocks : All IsBlock (entry_blocks e)
+
+abbrev pub EntryTakesSlots : Type 0
+EntryTakesSlots = (meta : ℕ) (e : Entry) → IsEntry meta e → meta ≤ 679 → TakesSlots e
+
+-- two entries with one spelling are equal
+abbrev pub EntryIsOne : Type 0
+EntryIsOne =
+    (meta : ℕ) (d e : Entry) → IsEntry meta d → IsEntry meta e → meta ≤ 679
+    → entry_blocks d ≡ entry_blocks e → d ≡ e
 
 -- the check value that is published for CRC-32
 abbrev pub CrcHasCheckValue : Type 0

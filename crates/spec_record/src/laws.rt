@@ -11,6 +11,9 @@ ghost use Rattle.spec_record.specs.Laws.{
   NodeIsPlace,
   NodeIsOne,
   ExtentIsRead,
+  EntryIsRead,
+  EntryTakesSlots,
+  EntryIsOne,
   CrcHasCheckValue,
 };
 
@@ -38,6 +41,13 @@ pub fn nodes_are_read_from_their_spelling_alone()
 /// An extent has one spelling, and no other eight bytes are read as it.
 pub fn extents_are_read_from_their_spelling_alone()
     ensures { ExtentIsRead }
+{}
+
+/// An entry has one spelling, and is read from no blocks that begin otherwise.
+pub fn entries_are_read_from_their_spelling_alone()
+    ensures read { EntryIsRead }
+    ensures slots { EntryTakesSlots }
+    ensures one { EntryIsOne }
 {}
 
 /// CRC-32 gives its published check value.

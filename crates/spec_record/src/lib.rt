@@ -24,9 +24,9 @@ pub use info::Info;
 pub use info_fault::InfoFault;
 pub use inode::Inode;
 pub use laws::{
-    crc32_has_the_check_value, extents_are_read_from_their_spelling_alone,
-    infos_are_read_from_their_spelling_alone, nodes_are_read_from_their_spelling_alone,
-    superblocks_are_read_from_their_spelling_alone,
+    crc32_has_the_check_value, entries_are_read_from_their_spelling_alone,
+    extents_are_read_from_their_spelling_alone, infos_are_read_from_their_spelling_alone,
+    nodes_are_read_from_their_spelling_alone, superblocks_are_read_from_their_spelling_alone,
 };
 pub use node::Node;
 pub use node_fault::NodeFault;
