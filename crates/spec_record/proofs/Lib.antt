@@ -13,3 +13,4 @@ pub mod PlaceLemmas
 pub mod ReadEntry
 pub mod SpelledEntry
 pub mod EntryLemmas
+pub mod PartLemmas

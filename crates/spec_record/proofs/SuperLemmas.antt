@@ -9,10 +9,10 @@ use Rattle.spec_record.specs.Laws.{SuperIsRead, SuperIsBlock, SuperIsOne, Spells
 use Rattle.spec_record.proofs.FieldLemmas.{spelled-all, fields-whole, length-spelled, IsBytes-spelled}
 use Rattle.spec_record.proofs.TestLemmas.{Passed, value_passed, passed_value, some_ok, equal, at_most, eqb_same, leb_true, both, both_true, between, is_between-true}
 
-most_blocks-le : (version : ℕ) → most_blocks version ≤ 4194304
+pub most_blocks-le : (version : ℕ) → most_blocks version ≤ 4194304
 most_blocks-le version = elim (eqb version 1) as (λ b. cond b 1048576 4194304 ≤ 4194304) [ true ↦ lit≤ tt | false ↦ lit≤ tt ]
 
-most_nodes-le : (version : ℕ) → most_nodes version ≤ 65536
+pub most_nodes-le : (version : ℕ) → most_nodes version ≤ 65536
 most_nodes-le version = elim (eqb version 1) as (λ b. cond b 32768 65536 ≤ 65536) [ true ↦ lit≤ tt | false ↦ lit≤ tt ]
 
 -- each number of a superblock fits its width

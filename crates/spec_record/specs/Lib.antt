@@ -13,3 +13,4 @@ pub mod Places
 pub mod Entry
 pub mod EntryBlocks
 pub mod Laws
+pub mod PartLaws

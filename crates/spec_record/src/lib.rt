@@ -25,8 +25,11 @@ pub use info_fault::InfoFault;
 pub use inode::Inode;
 pub use laws::{
     crc32_has_the_check_value, entries_are_read_from_their_spelling_alone,
-    extents_are_read_from_their_spelling_alone, infos_are_read_from_their_spelling_alone,
-    nodes_are_read_from_their_spelling_alone, superblocks_are_read_from_their_spelling_alone,
+    extents_are_read_from_their_spelling_alone, faults_name_the_first_byte_that_is_set,
+    infos_are_read_from_their_spelling_alone, magics_are_stored_as_their_bytes,
+    nodes_are_read_from_their_spelling_alone, payloads_are_hidden_and_come_back,
+    regions_follow_one_another, slots_follow_one_another,
+    superblocks_are_read_from_their_spelling_alone,
 };
 pub use node::Node;
 pub use node_fault::NodeFault;
