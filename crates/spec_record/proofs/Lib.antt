@@ -14,3 +14,4 @@ pub mod ReadEntry
 pub mod SpelledEntry
 pub mod EntryLemmas
 pub mod PartLemmas
+pub mod PlainLemmas

@@ -1,16 +1,15 @@
 -- The laws of the parts of a record.
-use Rattle.std.proofs.Common.{◌≡◌, ◌≢◌, ◌≤◌, ◌<◌, ℕ, zero, suc, ◌+◌, ◌-◌, ◌*◌, ◌/◌, ◌%◌, List, [], ◌∷◌, ◌++◌, length, take, drop, get_or, Bool, true, false, cond, eqb, min, refl, ap, sym, ◌∙◌, subst, inl, inr, arith, lit<, lit≤}
+use Rattle.std.proofs.Common.{◌≡◌, ◌≢◌, ◌≤◌, ◌<◌, ℕ, zero, suc, ◌+◌, ◌-◌, ◌%◌, List, [], ◌∷◌, ◌++◌, length, take, drop, get_or, Bool, true, false, cond, eqb, refl, ap, sym, ◌∙◌, subst, inl, inr, arith, lit<}
 use Rattle.std.proofs.lemmas.Bool.{cases_eq, cases_lt}
 use Rattle.std.proofs.lemmas.List.{length-take, length-drop, length-append, get_or-take, get_or-drop, get_or_append_left, get_or-append_right}
 use Rattle.std.proofs.lemmas.Nat.{mod_below}
 use Rattle.std.proofs.Math.Nat.{mod-eq_of_lt, mod-eq-sub-mod, mod-add-mod}
-use Rattle.spec_record.specs.declared.geometry.Geometry.{Geometry}
 use Rattle.spec_record.specs.Field.{number_of, bytes_of, field}
 use Rattle.spec_record.specs.Tests.{zeros_in_front, first_set}
-use Rattle.spec_record.specs.Geometry.{IsGeometry, most_blocks, most_nodes, meta_blocks}
-use Rattle.spec_record.specs.Places.{entry_magic, begins_with_magic}
-use Rattle.spec_record.specs.EntryBlocks.{stored, ring_from}
-use Rattle.spec_record.specs.PartLaws.{MagicsAreBytes, IsFirstSet, FaultNamesFirstSet, StoredHidesMagic, PayloadComesBack, EntryFits, GeometryFitsEntries, InOrder, RegionsFollow, RingIsCyclic, RingIsWhole}
+use Rattle.spec_record.specs.Geometry.{most_blocks, most_nodes}
+use Rattle.spec_record.specs.Places.{entry_magic}
+use Rattle.spec_record.specs.EntryBlocks.{stored}
+use Rattle.spec_record.specs.PartLaws.{MagicsAreBytes, FaultNamesFirstSet, StoredHidesMagic, PayloadComesBack, GeometryFitsEntries, RegionsFollow, RingIsCyclic, RingIsWhole}
 use Rattle.spec_record.proofs.FieldLemmas.{field-first}
 use Rattle.spec_record.proofs.TestLemmas.{eqb_same}
 use Rattle.spec_record.proofs.SuperLemmas.{most_blocks-le, most_nodes-le}

@@ -195,11 +195,11 @@ header_block number count targets flags few w =
 -- the header has these fields
 pub header_fields : (number count : ℕ) (targets flags : List ℕ) → FitHeader targets flags → FitWidths number count targets flags → HeaderFields (header_of number count targets flags) number count targets flags
 header_fields number count targets flags few w =
-    let header = header_of number count targets flags in
-    let T = with_unused targets in
-    let F = with_unused flags in
-    let R8 = replicate header_places 8 in
-    let R4 = replicate header_places 4 in
+    let header : List ℕ = header_of number count targets flags in
+    let T : List ℕ = with_unused targets in
+    let F : List ℕ = with_unused flags in
+    let R8 : List ℕ = replicate header_places 8 in
+    let R4 : List ℕ = replicate header_places 4 in
     let parts : fields 0 front_widths header ++ (fields 40 R8 header ++ fields 5472 R4 header ++ fields 8188 (4 ∷ []) header) ≡ header_rows number count targets flags =
     sym (header-parts header) ∙ ap (fields 0 header_widths) (header-whole number count targets flags few) ∙ fields-whole header_widths (header_rows number count targets flags) (rows-fit number count targets flags few w) in
     let row : (k : ℕ) → get_or (fields 0 front_widths header ++ (fields 40 R8 header ++ fields 5472 R4 header ++ fields 8188 (4 ∷ []) header)) k 0 ≡ get_or (header_rows number count targets flags) k 0 = λ k. ap (λ (ns : List ℕ). get_or ns k 0) parts in

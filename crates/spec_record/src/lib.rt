@@ -12,6 +12,9 @@ mod inode;
 mod laws;
 mod node;
 mod node_fault;
+mod plain_crc;
+mod plain_entry;
+mod plain_field;
 mod super_fault;
 mod superblock;
 
@@ -33,5 +36,8 @@ pub use laws::{
 };
 pub use node::Node;
 pub use node_fault::NodeFault;
+pub use plain_crc::{after_bytes, crc_of};
+pub use plain_entry::{restored_of, stored_of};
+pub use plain_field::{field_of, is_zero};
 pub use super_fault::SuperFault;
 pub use superblock::Super;
