@@ -229,3 +229,17 @@ header_fields number count targets flags few w =
           ∙ ap (λ (ns : List ℕ). get_or ns (header_places + header_places) 0) tail
           ∙ nth_third T F (0 ∷ []) (header_places + header_places) (omega arith);
     }
+
+-- one place more
+pub one_place_more : (test : ℕ → Bool) (start count rest : ℕ) → count ≡ suc rest → first_failing test start count ≡ cond (test start) (first_failing test (start + 1) rest) (Some start)
+unfolding first_failing
+one_place_more test start count rest e = ap (first_failing test start) e
+
+-- no place left
+pub no_place_more : (test : ℕ → Bool) (start count : ℕ) → count ≡ 0 → first_failing test start count ≡ None
+unfolding first_failing
+no_place_more test start count e = ap (first_failing test start) e
+
+-- all places of the header
+pub all_places : (test : ℕ → Bool) → first_failing test 0 679 ≡ first_failing test 0 header_places
+all_places test = ap (first_failing test 0) (sym places_are)

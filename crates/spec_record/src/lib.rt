@@ -37,7 +37,7 @@ pub use laws::{
 pub use node::Node;
 pub use node_fault::NodeFault;
 pub use plain_crc::{after_bytes, crc_of};
-pub use plain_entry::{restored_of, stored_of};
+pub use plain_entry::{first_entry_fault, restored_of, stored_of};
 pub use plain_field::{field_of, is_zero};
 pub use super_fault::SuperFault;
 pub use superblock::Super;

@@ -106,3 +106,95 @@ pub fn stored_of(payload: &Block) -> Block
     }
     block
 }
+
+/// The block at a place of a list.
+fn block_at(blocks: &[Block], place: usize) -> &Block
+    requires { place < length blocks.now }
+    ensures { result.now ≡ block_in blocks.now place }
+{
+    &blocks[place]
+}
+
+/// Whether a place of the header is as the count asks for.
+fn is_right(blocks: &[Block], meta: u64, place: usize) -> bool
+    requires place { place < 679 }
+    requires blocks { field (block_in blocks.now 0) 32 8 + 2 ≤ length blocks.now }
+    ensures { result ≡ is_place blocks.now meta place }
+{
+    let header = block_at(blocks, 0);
+    if (place as u64) < field_of(header, 32, 8) {
+        is_used(header, meta, place, block_at(blocks, place + 1))
+    } else {
+        is_unused(header, place)
+    }
+}
+
+/// The first place of the header that is wrong.
+fn wrong_place_of(blocks: &[Block], meta: u64) -> Option<u64>
+    requires { field (block_in blocks.now 0) 32 8 + 2 ≤ length blocks.now }
+    ensures { result ≡ wrong_place blocks.now meta }
+{
+    for place in 0..679usize {
+        if !is_right(blocks, meta, place) {
+            return Some(place as u64);
+        }
+    }
+    None
+}
+
+/// The CRC-32 of blocks, one after another.
+fn checksum_of(blocks: &[Block]) -> u32
+    ensures { result ≡ crc32 (concat blocks.now) }
+{
+    let mut register = 0xFFFF_FFFF;
+    for block in blocks {
+        register = after_bytes(register, block);
+    }
+    register ^ 0xFFFF_FFFF
+}
+
+/// Why blocks don't begin with the entry of a number, in a volume of so many metadata blocks; none
+/// where they do.
+#[tactic(auto, unfolding(crate::specs::Entry::entry_or_fault))]
+pub fn first_entry_fault(blocks: &[Block], number: u64, meta: u64) -> Option<EntryFault>
+    requires some { 0 < length blocks.now }
+    requires places { meta ≤ 679 }
+    ensures { result ≡ result_err (entry_or_fault blocks.now number meta) }
+{
+    let header = block_at(blocks, 0);
+    if !has_magic(header) {
+        return Some(EntryFault::Magic);
+    }
+    let found = field_of(header, 8, 8);
+    if found != number || number < 1 || number > 0x3FFF_FFFF_FFFF_FFFF {
+        return Some(EntryFault::Number {
+            wanted: number,
+            found,
+        });
+    }
+    let kind = field_of(header, 16, 8);
+    if kind != 1 {
+        return Some(EntryFault::Kind { value: kind });
+    }
+    let count = field_of(header, 32, 8);
+    if count < 1 || count > meta || count as usize + 2 > blocks.len() {
+        return Some(EntryFault::Count { value: count });
+    }
+    if let Some(index) = wrong_place_of(blocks, meta) {
+        return Some(EntryFault::Target { index });
+    }
+    if !is_zero(header, 24, 8) || !is_zero(header, 8188, 4) {
+        return Some(EntryFault::Target { index: 679 });
+    }
+    let last = count as usize + 1;
+    let commit = block_at(blocks, last);
+    if !is_commit_of(commit, number) {
+        return Some(EntryFault::Commit);
+    }
+    let wanted = field_of(commit, 32, 4) as u32;
+    let found = checksum_of(&blocks[..last]);
+    if wanted != found {
+        return Some(EntryFault::Checksum { wanted, found });
+    }
+    None
+}
