@@ -15,6 +15,8 @@ mod node_fault;
 mod plain_crc;
 mod plain_entry;
 mod plain_field;
+mod plain_info;
+mod plain_node;
 mod super_fault;
 mod superblock;
 
@@ -38,6 +40,11 @@ pub use node::Node;
 pub use node_fault::NodeFault;
 pub use plain_crc::{after_bytes, crc_of};
 pub use plain_entry::{first_entry_fault, restored_of, stored_of};
-pub use plain_field::{field_of, is_zero};
+pub use plain_field::{field_of, first_set_of, is_zero};
+pub use plain_info::info_from;
+pub use plain_node::node_from;
 pub use super_fault::SuperFault;
 pub use superblock::Super;
+
+#[cfg(test)]
+mod tests;

@@ -2,6 +2,7 @@
 
 ghost use Rattle.std.specs.Prelude.{◌≡◌, ◌==◌, ◌<◌, ◌≤◌, ◌+◌, ◌^◌, length};
 ghost use Rattle.spec_record.specs.Field.{field};
+ghost use Rattle.spec_record.specs.Tests.{first_set};
 
 /// The field of at most eight bytes at an offset.
 pub fn field_of(bytes: &[u8], offset: usize, width: usize) -> u64
@@ -26,4 +27,20 @@ pub fn is_zero(bytes: &[u8], offset: usize, width: usize) -> bool
         }
     }
     true
+}
+
+/// The offset of the first byte that isn't zero, from an offset on, or the end of the bytes.
+#[tactic(auto, unfolding(crate::specs::Tests::first_set))]
+pub fn first_set_of(bytes: &[u8], offset: usize) -> u64
+    requires { offset ≤ length bytes.now }
+    ensures { result ≡ first_set bytes.now offset }
+{
+    let mut place = offset;
+    for byte in &bytes[offset..] {
+        if *byte != 0 {
+            return place as u64;
+        }
+        place += 1;
+    }
+    place as u64
 }

@@ -1,4 +1,4 @@
-use Rattle.std.proofs.Common.{◌≡◌, ◌+◌, ◌-◌, ◌∙◌, ℕ, suc, Bool, true, false, cond, not, Option, Some, None, ap, sym, arith}
+use Rattle.std.proofs.Common.{◌≡◌, ◌+◌, ◌-◌, ◌∙◌, ℕ, suc, Bool, true, false, cond, Some, ap, sym, arith}
 use Rattle.spec_record.specs.Places.{first_failing, is_place}
 use Rattle.spec_record.proofs.PlaceLemmas.{one_place_more, no_place_more, all_places}
 use Rattle.spec_record.proofs.plain_entry.wrong_place_of.Goals as goal
