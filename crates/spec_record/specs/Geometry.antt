@@ -10,13 +10,13 @@
 -- | M + 1 + s           | slot s of the ring, s below J - 1               |
 -- | M + J + d           | data block d, d below B                         |
 --
--- | count            | limits                                                              |
--- |------------------|---------------------------------------------------------------------|
--- | version          | 1 or 2                                                              |
--- | data blocks B    | 2 to 1,048,576, in version 2 to 4,194,304                           |
--- | nodes N          | a multiple of 128, from 128 to 32,768, in version 2 to 65,536       |
+-- | count             | limits                                                             |
+-- |-------------------|--------------------------------------------------------------------|
+-- | version           | 1 or 2                                                             |
+-- | data blocks B     | 2 to 1,048,576, in version 2 to 4,194,304                          |
+-- | nodes N           | a multiple of 128, from 128 to 32,768, in version 2 to 65,536      |
 -- | metadata blocks M | 1 + ceil(B / 65536) + N / 128                                      |
--- | journal blocks J | M + 3 to 65,536                                                     |
+-- | journal blocks J  | M + 3 to 65,536                                                    |
 use Rattle.std.specs.Prelude.{◌≡◌, ◌+◌, ◌-◌, ◌/◌, ◌%◌, ℕ, Bool, ◌&&◌, ◌==◌, if◌then◌else◌, List, take, drop}
 use Rattle.spec_record.specs.declared.geometry.Geometry.{Geometry}
 use Rattle.spec_record.specs.Tests.{IsBetween, is_between}
@@ -69,16 +69,19 @@ pub record IsGeometry (g : Geometry) : Type 0 where
   pub whole_node_blocks : g.nodes % 128 ≡ 0
   pub journal : IsBetween (meta_blocks g + 3) g.journal 65536
 
--- the tests of `IsGeometry`, count by count
+-- the tests of `IsGeometry`, count by count: the version
 abbrev pub is_version : ℕ → Bool
 is_version version = is_between 1 version 2
 
+-- the data blocks
 abbrev pub is_block_count : ℕ → ℕ → Bool
 is_block_count version blocks = is_between 2 blocks (most_blocks version)
 
+-- the nodes
 abbrev pub is_node_count : ℕ → ℕ → Bool
 is_node_count version nodes = is_between 128 nodes (most_nodes version) && (nodes % 128 == 0)
 
+-- the journal's blocks
 abbrev pub is_journal_count : Geometry → Bool
 is_journal_count g = is_between (meta_blocks g + 3) g.journal 65536
 

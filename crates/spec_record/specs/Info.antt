@@ -21,6 +21,7 @@ use Rattle.spec_record.specs.Field.{field, spelled}
 use Rattle.spec_record.specs.Tests.{value_or_fault, IsBetween, is_between, first_set}
 use Rattle.spec_record.specs.Crc.{crc32}
 
+-- the number with which an info block begins
 abbrev pub info_magic : ℕ
 info_magic = 0x626c6f626a726e6c
 

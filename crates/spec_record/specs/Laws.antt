@@ -106,6 +106,7 @@ pub record TakesSlots (e : Entry) : Type 0 where
   pub slots : length (entry_blocks e) ≡ entry_slots e
   pub blocks : All IsBlock (entry_blocks e)
 
+-- a lawful entry's blocks are such
 abbrev pub EntryTakesSlots : Type 0
 EntryTakesSlots = (meta : ℕ) (e : Entry) → IsEntry meta e → meta ≤ 679 → TakesSlots e
 

@@ -87,17 +87,30 @@ container_tests bytes =
     let unused = 8 * (6 - (container_in bytes).count) in
     zero_test bytes 14 2 ∷ zero_test bytes (64 - unused) unused ∷ []
 
--- what 64 bytes stand for in a volume of some version, or the first test that fails
+-- what 64 zero bytes stand for, or the first byte that isn't zero
+abbrev pub free_or_fault : List ℕ → Result Node NodeFault
+free_or_fault bytes = value_or_fault (zero_test bytes 0 64 ∷ []) nodes.Free
+
+-- what 64 bytes with the flags of an inode stand for, or the first test that fails
+abbrev pub inode_or_fault : List ℕ → ℕ → Result Node NodeFault
+inode_or_fault bytes volume =
+    let tests = version_test bytes volume ∷ inode_tests bytes in
+    value_or_fault tests (nodes.Inode (inode_in bytes))
+
+-- what 64 bytes with the flags of a container stand for, or the first test that fails
+abbrev pub container_or_fault : List ℕ → ℕ → Result Node NodeFault
+container_or_fault bytes volume =
+    let tests = version_test bytes volume ∷ container_tests bytes in
+    value_or_fault tests (nodes.Container (container_in bytes))
+
+-- what 64 bytes stand for in a volume of some version, by their flags, or the first test that fails
 unfoldable pub node_or_fault : List ℕ → ℕ → Result Node NodeFault
 node_or_fault bytes volume =
     let flags = field bytes 0 2 in
-    if flags == 0 then value_or_fault (zero_test bytes 0 64 ∷ []) nodes.Free
-    else (if flags == 1 then
-    value_or_fault (version_test bytes volume ∷ inode_tests bytes) (nodes.Inode (inode_in bytes))
-    else (if flags == 9 then
-    value_or_fault (version_test bytes volume ∷ container_tests bytes)
-    (nodes.Container (container_in bytes))
-    else Err (faults.Flags flags)))
+    if flags == 0 then free_or_fault bytes else
+    (if flags == 1 then inode_or_fault bytes volume else
+    (if flags == 9 then container_or_fault bytes volume else
+    Err (faults.Flags flags)))
 
 -- what 64 bytes stand for in a volume of some version, or none
 abbrev pub node_of : List ℕ → ℕ → Option Node

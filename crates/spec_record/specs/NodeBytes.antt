@@ -46,19 +46,21 @@ IsNode volume Free = Unit {0}
 IsNode volume (InodeNode i) = IsInode volume i
 IsNode volume (ContainerNode c) = IsContainer volume c
 
--- the tables' widths, row by row
+-- the widths of an inode's table, row by row
 abbrev pub inode_widths : List ℕ
 inode_widths = 2 ∷ 2 ∷ 4 ∷ 32 ∷ 8 ∷ 4 ∷ 2 ∷ 2 ∷ 8 ∷ []
 
+-- the widths of a container's table, row by row
 abbrev pub container_widths : List ℕ
 container_widths = 2 ∷ 2 ∷ 4 ∷ 4 ∷ 2 ∷ 2 ∷ 8 ∷ 8 ∷ 8 ∷ 8 ∷ 8 ∷ 8 ∷ []
 
--- the tables' numbers, row by row
+-- the numbers of an inode's table, row by row
 abbrev pub inode_rows : Inode → List ℕ
 inode_rows i =
     1 ∷ i.version ∷ i.next ∷ number_of i.root.0 ∷ i.size ∷ i.blocks ∷ i.extents ∷ 0
     ∷ extent_number i.first ∷ []
 
+-- the numbers of a container's table, row by row
 abbrev pub container_rows : Container → List ℕ
 container_rows c =
     9 ∷ c.version ∷ c.next ∷ c.previous ∷ c.count ∷ 0 ∷ map extent_number c.extents

@@ -44,6 +44,7 @@ pub record EntryFits (g : Geometry) : Type 0 where
   pub most_meta_1 : g.version ≡ 1 → meta_blocks g ≤ 273
   pub in_ring : meta_blocks g + 2 ≤ ring_slots g
 
+-- so it is in every volume within the limits
 abbrev pub GeometryFitsEntries : Type 0
 GeometryFitsEntries = (g : Geometry) → IsGeometry g → EntryFits g
 
@@ -53,6 +54,7 @@ pub record InOrder (g : Geometry) (slot block : ℕ) : Type 0 where
   pub then_slots : slot_at g slot < block_at g block
   pub then_blocks : block_at g block < total_blocks g
 
+-- so it is in every volume, within its own counts
 abbrev pub RegionsFollow : Type 0
 RegionsFollow =
     (g : Geometry) (slot block : ℕ) → slot < ring_slots g → block < g.blocks → InOrder g slot block

@@ -2,6 +2,7 @@
 use Rattle.std.specs.Prelude.{◌+◌, ◌-◌, ◌*◌, ℕ, zero, suc, Bool, not, ◌&&◌, ◌||◌, ◌==◌, nat_lt, if◌then◌else◌, List, [], slice_index_or, Option, Some, None}
 use Rattle.spec_record.specs.Field.{field}
 
+-- the number with which headers and commits begin
 abbrev pub entry_magic : ℕ
 entry_magic = 0x626c6f626e747279
 
@@ -13,13 +14,15 @@ header_places = 679
 abbrev pub block_in : List (List ℕ) → ℕ → List ℕ
 block_in blocks place = slice_index_or blocks place []
 
+-- a block begins as headers and commits do
 abbrev pub begins_with_magic : List ℕ → Bool
 begins_with_magic block = field block 0 8 == entry_magic
 
--- the target and the flag at a place of a header
+-- the target at a place of a header
 abbrev pub target_in : List ℕ → ℕ → ℕ
 target_in header place = field header (40 + 8 * place) 8
 
+-- the flag at a place of a header
 abbrev pub flag_in : List ℕ → ℕ → ℕ
 flag_in header place = field header (5472 + 4 * place) 4
 
@@ -35,6 +38,7 @@ is_used_place header meta place payload =
     && nat_lt (target_in header place) meta
     && is_escape (flag_in header place) payload
 
+-- an unused place: target and flag are 0
 abbrev pub is_unused_place : List ℕ → ℕ → Bool
 is_unused_place header place = (target_in header place == 0) && (flag_in header place == 0)
 

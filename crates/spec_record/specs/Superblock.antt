@@ -29,14 +29,15 @@ use Rattle.spec_record.specs.Field.{field, spelled}
 use Rattle.spec_record.specs.Tests.{value_or_fault, IsBetween, is_between, first_set}
 use Rattle.spec_record.specs.Geometry.{bitmap_blocks, node_blocks, total_blocks, IsGeometry, is_version, is_block_count, is_node_count, is_journal_count}
 
--- the bytes `blobvol` and a zero byte, and the bytes `profile1`, as numbers
+-- the bytes `blobvol` and a zero byte, as a number
 abbrev pub first_magic : ℕ
 first_magic = 0x006c6f76626f6c62
 
+-- the bytes `profile1`, as a number
 abbrev pub second_magic : ℕ
 second_magic = 0x31656c69666f7270
 
--- the values in the fields, in their ranges or not
+-- the counts in the fields that fix the regions, in their ranges or not
 abbrev pub geometry_in : List ℕ → Geometry
 geometry_in bytes = record {
   blocks = field bytes 24 8;
@@ -45,6 +46,7 @@ geometry_in bytes = record {
   version = field bytes 16 4;
 }
 
+-- the values in the fields, in their ranges or not
 abbrev pub super_in : List ℕ → Super
 super_in bytes = record {
   geometry = geometry_in bytes;
