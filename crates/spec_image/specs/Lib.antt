@@ -1,0 +1,11 @@
+pub mod Journal
+pub mod Replay
+pub mod After
+pub mod Chain
+pub mod Metadata
+pub mod Blobs
+pub mod WellFormed
+pub mod Window
+pub mod Stored
+pub mod Volume
+pub mod Chance
