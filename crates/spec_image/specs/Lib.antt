@@ -1,3 +1,4 @@
+pub mod Same
 pub mod Journal
 pub mod Replay
 pub mod After

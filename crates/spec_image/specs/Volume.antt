@@ -3,16 +3,17 @@ use Rattle.std.specs.Prelude.{◌≡◌, ℕ, List, length, Bool, ◌==◌, ◌&
 use Rattle.spec_disk.specs.Disk.{block}
 use Rattle.spec_tree.specs.declared.Digest.{Digest}
 use Rattle.spec_tree.specs.Tree.{root_of}
+use Rattle.spec_tree.specs.Order.{same_digest}
 use Rattle.spec_record.specs.declared.geometry.Geometry.{Geometry}
 use Rattle.spec_record.specs.declared.superblock.Super.{Super}
 use Rattle.spec_record.specs.Superblock.{super_of}
-use Rattle.spec_image.specs.declared.blob.Blob.{Blob}
+use Rattle.spec_tree.specs.declared.blob.Blob.{Blob}
 use Rattle.spec_image.specs.Journal.{journal_of}
 use Rattle.spec_image.specs.After.{after}
 use Rattle.spec_image.specs.Chain.{BlobRecord}
 use Rattle.spec_image.specs.Metadata.{Metadata, metadata_in}
 use Rattle.spec_image.specs.WellFormed.{records_of, is_well_formed}
-use Rattle.spec_image.specs.Blobs.{same_root, blob_map}
+use Rattle.spec_image.specs.Blobs.{blob_map}
 use Rattle.spec_image.specs.Stored.{bytes_in, AllVerify}
 
 -- the superblock of an image, or none
@@ -50,7 +51,7 @@ blobs image = option_map (λ m. blob_map (records_of m)) (metadata_of image)
 
 -- the blob with this root in some metadata, or none
 abbrev pub blob_in : Metadata → Digest → Option BlobRecord
-blob_in m root = find (λ b. same_root root b.root) (records_of m)
+blob_in m root = find (λ b. same_digest root b.root) (records_of m)
 
 -- BytesOf: the bytes of the blob with this root, or none where the image has no such blob
 abbrev pub bytes_of : List (List ℕ) → Digest → Option (List ℕ)

@@ -8,7 +8,7 @@ use Rattle.spec_record.specs.declared.node.Node.TheVariants as nodes
 use Rattle.spec_record.specs.declared.node_fault.NodeFault.{NodeFault}
 use Rattle.spec_image.specs.Chain.{Nodes, BlobRecord, lengths, chain}
 use Rattle.spec_image.specs.Metadata.{Metadata}
-use Rattle.spec_image.specs.Blobs.{same_root}
+use Rattle.spec_tree.specs.Order.{same_digest}
 
 -- the blob that a chain read, if it did
 abbrev pub read_of : Result BlobRecord NodeFault → List BlobRecord
@@ -43,7 +43,7 @@ chains_with bs k = sum_by (λ b. count_by (λ n. n == k) b.nodes) bs
 
 -- the blobs with this root
 abbrev pub blobs_named : List BlobRecord → Digest → ℕ
-blobs_named bs root = count_by (λ b. same_root root b.root) bs
+blobs_named bs root = count_by (λ b. same_digest root b.root) bs
 
 abbrev pub is_inode : Result Node NodeFault → Bool
 is_inode (Ok nodes.Free) = false

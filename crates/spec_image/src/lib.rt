@@ -1,6 +1,6 @@
 //! What a whole image of a volume stands for: its journal, its metadata and its blobs.
+//!
+//! The definitions stand in `specs/`; `laws` shows what they mean.
 #![tactic(auto)]
 
-mod blob;
-
-pub use blob::Blob;
+pub mod laws;

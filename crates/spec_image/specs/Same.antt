@@ -1,0 +1,15 @@
+-- Images that agree in the parts of a volume on which a definition depends.
+use Rattle.std.specs.Prelude.{◌≡◌, ℕ, ◌<◌, List, length}
+use Rattle.spec_disk.specs.Disk.{block}
+use Rattle.spec_record.specs.declared.geometry.Geometry.{Geometry}
+use Rattle.spec_record.specs.Geometry.{meta_blocks, ring_slots, info_at, slot_at}
+
+-- two images of one length with the same info block and the same block in each slot of the ring
+pub record SameJournal (g : Geometry) (a b : List (List ℕ)) : Type 0 where
+  pub as_long : length a ≡ length b
+  pub info : block a (info_at g) ≡ block b (info_at g)
+  pub slots : (s : ℕ) → s < ring_slots g → block a (slot_at g s) ≡ block b (slot_at g s)
+
+-- the same metadata blocks
+abbrev pub SameMetadata : Geometry → List (List ℕ) → List (List ℕ) → Type 0
+SameMetadata g a b = (t : ℕ) → t < meta_blocks g → block a t ≡ block b t

@@ -1,0 +1,24 @@
+//! Laws of the definitions: what each function here ensures holds of all values.
+
+ghost use Rattle.std.specs.Prelude.{◌≡◌, ℕ, List};
+ghost use Rattle.spec_record.specs.declared.geometry.Geometry.{Geometry};
+ghost use Rattle.spec_record.specs.Entry.{Entry};
+ghost use Rattle.spec_image.specs.After.{after};
+ghost use Rattle.spec_image.specs.Journal.{Journal, journal_of};
+ghost use Rattle.spec_image.specs.Replay.{IsReplay, replay};
+ghost use Rattle.spec_image.specs.Same.{SameJournal, SameMetadata};
+
+/// A journal has one longest list of entries, and `replay` is that list.
+pub fn a_journal_has_one_replay()
+    ensures is { (j : Journal) → IsReplay j (replay j) }
+    ensures alone { (j : Journal) (a b : List Entry) → IsReplay j a → IsReplay j b → a ≡ b }
+{}
+
+/// The replay of an image depends on the info block and the ring alone, and the replayed metadata on
+/// these and the metadata blocks.
+pub fn the_replay_depends_on_the_journal()
+    ensures replay { (g : Geometry) (a b : List (List ℕ)) → SameJournal g a b
+        → replay (journal_of g a) ≡ replay (journal_of g b) }
+    ensures after { (g : Geometry) (a b : List (List ℕ)) → SameJournal g a b → SameMetadata g a b
+        → after g a ≡ after g b }
+{}
