@@ -1,2 +1,4 @@
 pub mod ReplayLemmas
 pub mod SameLemmas
+pub mod EntryLemmas
+pub mod TornLemmas

@@ -10,3 +10,4 @@ pub mod Window
 pub mod Stored
 pub mod Volume
 pub mod Chance
+pub mod Torn

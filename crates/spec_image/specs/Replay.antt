@@ -4,7 +4,8 @@ use Rattle.std.specs.Prelude.{◌≡◌, ℕ, zero, suc, ◌+◌, ◌-◌, ◌�
 use Rattle.std.specs.List.{range_with_len}
 use Rattle.spec_record.specs.declared.info.Info.{Info}
 use Rattle.spec_record.specs.Field.{field}
-use Rattle.spec_record.specs.Entry.{Entry, begins_with_magic}
+use Rattle.spec_record.specs.Places.{begins_with_magic}
+use Rattle.spec_record.specs.Entry.{Entry}
 use Rattle.spec_record.specs.EntryBlocks.{entry_slots, entry_at}
 use Rattle.spec_image.specs.Journal.{Journal, slot_past}
 

@@ -1,12 +1,16 @@
 //! Laws of the definitions: what each function here ensures holds of all values.
 
 ghost use Rattle.std.specs.Prelude.{◌≡◌, ℕ, List};
+ghost use Rattle.spec_disk.specs.declared.event.Event.{Event};
 ghost use Rattle.spec_record.specs.declared.geometry.Geometry.{Geometry};
+ghost use Rattle.spec_record.specs.declared.info.Info.{Info};
 ghost use Rattle.spec_record.specs.Entry.{Entry};
 ghost use Rattle.spec_image.specs.After.{after};
 ghost use Rattle.spec_image.specs.Journal.{Journal, journal_of};
 ghost use Rattle.spec_image.specs.Replay.{IsReplay, replay};
 ghost use Rattle.spec_image.specs.Same.{SameJournal, SameMetadata};
+ghost use Rattle.spec_image.specs.Chance.{NoChance};
+ghost use Rattle.spec_image.specs.Torn.{TornAdd};
 
 /// A journal has one longest list of entries, and `replay` is that list.
 pub fn a_journal_has_one_replay()
@@ -21,4 +25,11 @@ pub fn the_replay_depends_on_the_journal()
         → replay (journal_of g a) ≡ replay (journal_of g b) }
     ensures after { (g : Geometry) (a b : List (List ℕ)) → SameJournal g a b → SameMetadata g a b
         → after g a ≡ after g b }
+{}
+
+/// Neither an image in which the entry that was being written lacks its header or its commit, nor
+/// one that has it whole, is one by chance.
+pub fn a_torn_add_is_no_chance()
+    ensures { (g : Geometry) (i : Info) (base : List (List ℕ)) (p : List Event) (j : List (List ℕ))
+        → TornAdd g i base p j → NoChance base p j }
 {}
