@@ -7,7 +7,7 @@
 --
 -- Zeros fill the last block of the data, in version 1 that of each level, in version 2 that of the
 -- digests. Whoever reads looks at no filling of data, and at none behind the joined digests.
-use Rattle.std.specs.Prelude.{ℕ, ◌+◌, ◌-◌, ◌*◌, ◌<◌, List, [], length, take, drop, map, sum, slice_index_or, if◌then◌else◌, ◌==◌}
+use Rattle.std.specs.Prelude.{ℕ, ◌+◌, ◌-◌, ◌*◌, ◌<◌, List, [], length, take, drop, map, sum_by, slice_index_or, if◌then◌else◌, ◌==◌}
 use Rattle.std.specs.List.{range_with_len, flat_map, concat}
 use Rattle.spec_disk.specs.Disk.{block}
 use Rattle.spec_tree.specs.Tree.{data_blocks, digests_at, filled, levels_of, windows_of}
@@ -39,14 +39,14 @@ bytes_in g image b = take b.size (stored_data b (stored g image b))
 -- version 1: block i of a level above level 0 stands behind the blocks of the levels between
 abbrev pub padded_block : BlobRecord → List (List ℕ) → ℕ → ℕ → List ℕ
 padded_block b blocks level i =
-    slice_index_or blocks (sum (map (digests_at b.size) (range_with_len 1 (level - 1))) + i) []
+    slice_index_or blocks (sum_by (digests_at b.size) (range_with_len 1 (level - 1)) + i) []
 
 -- version 2: the digests that block i of a level holds stand behind those that the levels below hold,
 -- and zeros are in the unused places
 abbrev pub compact_block : BlobRecord → List (List ℕ) → ℕ → ℕ → List ℕ
 compact_block b blocks level i =
     let tree = concat (drop (data_blocks b.size) blocks) in
-    let held_below = sum (map (digests_at b.size) (range_with_len 0 (level - 1))) in
+    let held_below = sum_by (digests_at b.size) (range_with_len 0 (level - 1)) in
     filled (take (32 * used_places b.size level i) (drop (32 * (held_below + 256 * i)) tree))
 
 -- block i of a level above level 0, as a fetch finds it

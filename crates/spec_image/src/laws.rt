@@ -2,6 +2,7 @@
 
 ghost use Rattle.std.specs.Prelude.{◌≡◌, ℕ, List};
 ghost use Rattle.spec_disk.specs.declared.event.Event.{Event};
+ghost use Rattle.spec_tree.specs.declared.Digest.{Digest};
 ghost use Rattle.spec_record.specs.declared.geometry.Geometry.{Geometry};
 ghost use Rattle.spec_record.specs.declared.info.Info.{Info};
 ghost use Rattle.spec_record.specs.Entry.{Entry};
@@ -11,6 +12,7 @@ ghost use Rattle.spec_image.specs.Replay.{IsReplay, replay};
 ghost use Rattle.spec_image.specs.Same.{SameJournal, SameMetadata};
 ghost use Rattle.spec_image.specs.Chance.{NoChance};
 ghost use Rattle.spec_image.specs.Torn.{TornAdd};
+ghost use Rattle.spec_image.specs.Volume.{IsWhole, IsSound};
 
 /// A journal has one longest list of entries, and `replay` is that list.
 pub fn a_journal_has_one_replay()
@@ -32,4 +34,9 @@ pub fn the_replay_depends_on_the_journal()
 pub fn a_torn_add_is_no_chance()
     ensures { (g : Geometry) (i : Info) (base : List (List ℕ)) (p : List Event) (j : List (List ℕ))
         → TornAdd g i base p j → NoChance base p j }
+{}
+
+/// Where each window of a blob verifies, its bytes have its root.
+pub fn a_sound_blob_is_whole()
+    ensures { (image : List (List ℕ)) (root : Digest) → IsSound image root → IsWhole image root }
 {}
