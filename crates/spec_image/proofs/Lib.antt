@@ -5,3 +5,5 @@ pub mod TornLemmas
 pub mod DigestBlockLemmas
 pub mod WholeLemmas
 pub mod SoundLemmas
+pub mod SampleJournalLemmas
+pub mod SampleNodeLemmas

@@ -11,3 +11,5 @@ pub mod Stored
 pub mod Volume
 pub mod Chance
 pub mod Torn
+pub mod SampleJournals
+pub mod SampleNodes

@@ -3,4 +3,5 @@
 //! The definitions stand in `specs/`; `laws` shows what they mean.
 #![tactic(auto)]
 
+pub mod examples;
 pub mod laws;

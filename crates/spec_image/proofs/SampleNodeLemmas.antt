@@ -1,0 +1,66 @@
+-- What the chains and the metadata by hand are, computed.
+use Rattle.std.proofs.Common.{◌≡◌, [], ◌∷◌, true, false, Result, Ok, Err, refl}
+use Rattle.spec_record.specs.declared.node_fault.NodeFault.{NodeFault}
+use Rattle.spec_record.specs.declared.node_fault.NodeFault.TheVariants as faults
+use Rattle.spec_tree.specs.Tree.{need_of, tree_blocks_of, levels_of, levels_above, digests_at}
+use Rattle.spec_image.specs.Chain.{BlobRecord, check_counts, walk, chain}
+use Rattle.spec_image.specs.WellFormed.{records_below, all_below, is_well_formed, containers_placed, blocks_apart, roots_apart, bits_right, counts_right}
+use Rattle.spec_image.specs.SampleNodes.{pair, inode, container, blob, metadata, marks, nodes_of_blob, empty_inode, small_inode}
+
+abbrev done : BlobRecord → Result BlobRecord NodeFault
+done b = Ok b
+
+abbrev failed : NodeFault → Result BlobRecord NodeFault
+failed f = Err f
+
+pub chain_reads : chain (pair (inode 1) (container 0 6 1 5)) 16 0 ≡ done blob
+unfolding need_of tree_blocks_of levels_of levels_above digests_at check_counts walk chain
+chain_reads = refl
+
+pub chain_past : chain (pair (inode 2) (container 0 6 1 5)) 16 0 ≡ failed (faults.BadLink 0)
+unfolding need_of tree_blocks_of levels_of levels_above digests_at check_counts walk chain
+chain_past = refl
+
+pub chain_previous : chain (pair (inode 1) (container 1 6 1 5)) 16 0 ≡ failed (faults.BadLink 0)
+unfolding need_of tree_blocks_of levels_of levels_above digests_at check_counts walk chain
+chain_previous = refl
+
+pub chain_version : chain (pair (inode 1) (container 0 6 2 5)) 16 0 ≡ failed (faults.BadLink 0)
+unfolding need_of tree_blocks_of levels_of levels_above digests_at check_counts walk chain
+chain_version = refl
+
+pub chain_count : chain (pair (inode 1) (container 0 5 1 5)) 16 0 ≡ failed (faults.Count 5 6)
+unfolding need_of tree_blocks_of levels_of levels_above digests_at check_counts walk chain
+chain_count = refl
+
+pub chain_extent : chain (pair (inode 1) (container 0 6 1 16)) 16 0 ≡ failed (faults.Extent 1 0)
+unfolding need_of tree_blocks_of levels_of levels_above digests_at check_counts walk chain
+chain_extent = refl
+
+pub chain_container : chain (pair (inode 1) (container 0 6 1 5)) 16 1 ≡ failed faults.NotInode
+unfolding need_of tree_blocks_of levels_of levels_above digests_at check_counts walk chain
+chain_container = refl
+
+pub metadata_good : is_well_formed (metadata nodes_of_blob marks 1 8 2) ≡ true
+unfolding need_of tree_blocks_of levels_of levels_above digests_at check_counts walk chain records_below all_below is_well_formed
+metadata_good = refl
+
+pub metadata_orphan : containers_placed (metadata (pair (inode 2) (container 0 6 1 5)) marks 1 8 2) ≡ false
+unfolding need_of tree_blocks_of levels_of levels_above digests_at check_counts walk chain records_below all_below is_well_formed
+metadata_orphan = refl
+
+pub metadata_overlap : blocks_apart (metadata (pair (small_inode 1) (small_inode 2)) (0 ∷ 2 ∷ []) 2 3 2) ≡ false
+unfolding need_of tree_blocks_of levels_of levels_above digests_at check_counts walk chain records_below all_below is_well_formed
+metadata_overlap = refl
+
+pub metadata_twice : roots_apart (metadata (pair empty_inode empty_inode) (0 ∷ []) 2 1 2) ≡ false
+unfolding need_of tree_blocks_of levels_of levels_above digests_at check_counts walk chain records_below all_below is_well_formed
+metadata_twice = refl
+
+pub metadata_bit : bits_right (metadata nodes_of_blob (19 ∷ marks) 1 8 2) ≡ false
+unfolding need_of tree_blocks_of levels_of levels_above digests_at check_counts walk chain records_below all_below is_well_formed
+metadata_bit = refl
+
+pub metadata_counts : counts_right (metadata nodes_of_blob marks 1 7 2) ≡ false
+unfolding need_of tree_blocks_of levels_of levels_above digests_at check_counts walk chain records_below all_below is_well_formed
+metadata_counts = refl

@@ -1,0 +1,79 @@
+//! Journals and chains by hand, and what the definitions make of them. The checksums are those of an
+//! implementation of CRC-32 elsewhere.
+
+ghost use Rattle.std.specs.Prelude.{◌≡◌, [], ◌∷◌, true, false, Ok, Err};
+ghost use Rattle.spec_record.specs.declared.node_fault.NodeFault.TheVariants as faults;
+ghost use Rattle.spec_image.specs.After.{after};
+ghost use Rattle.spec_image.specs.Chain.{chain};
+ghost use Rattle.spec_image.specs.SampleJournals as sample;
+ghost use Rattle.spec_image.specs.SampleNodes as nodes;
+ghost use Rattle.spec_image.specs.Replay.{replay, next_slot, next_number, stale_slots};
+ghost use Rattle.spec_image.specs.WellFormed.{is_well_formed, containers_placed, blocks_apart, roots_apart, bits_right, counts_right};
+
+/// An entry may wrap around the ring. Its payload replaces block 2.
+pub fn an_entry_may_wrap()
+    ensures entries { replay (sample.journal [] [] []) ≡ sample.entry 7 ∷ [] }
+    ensures slot { next_slot (sample.journal [] [] []) sample.info ≡ 2 }
+    ensures number { next_number (sample.journal [] [] []) sample.info ≡ 8 }
+    ensures stale { stale_slots (sample.journal [] [] []) sample.info ≡ [] }
+    ensures after { after sample.geometry sample.image ≡ (1 ∷ []) ∷ (2 ∷ []) ∷ sample.payload ∷ [] }
+{}
+
+/// An entry of the next number in the next slot follows.
+pub fn the_next_entry_follows()
+    ensures entries { replay sample.with_next ≡ sample.entry 7 ∷ sample.entry 8 ∷ [] }
+    ensures slot { next_slot sample.with_next sample.info ≡ 5 }
+{}
+
+/// A number that is skipped ends the replay. What stands behind is stale: header and commit.
+pub fn a_gap_in_the_numbers_ends_the_replay()
+    ensures entries { replay sample.with_gap ≡ sample.entry 7 ∷ [] }
+    ensures stale { stale_slots sample.with_gap sample.info ≡ 2 ∷ 4 ∷ [] }
+{}
+
+/// An entry of which a block is missing is none.
+pub fn a_torn_entry_is_none()
+    ensures commit { replay sample.without_commit ≡ sample.entry 7 ∷ [] }
+    ensures payload { replay sample.without_payload ≡ sample.entry 7 ∷ [] }
+    ensures header { replay sample.without_header ≡ sample.entry 7 ∷ [] }
+    ensures stale_header { stale_slots sample.without_commit sample.info ≡ 2 ∷ [] }
+    ensures stale_commit { stale_slots sample.without_header sample.info ≡ 4 ∷ [] }
+{}
+
+/// A chain gives the extents of the inode and its container in order.
+pub fn a_chain_gives_its_extents_in_order()
+    ensures { chain (nodes.pair (nodes.inode 1) (nodes.container 0 6 1 5)) 16 0
+        ≡ Ok nodes.blob }
+{}
+
+/// A chain names the first test that fails.
+pub fn a_chain_names_its_first_fault()
+    ensures no_inode { chain (nodes.pair (nodes.inode 1) (nodes.container 0 6 1 5)) 16 1
+        ≡ Err faults.NotInode }
+    ensures link_past_the_nodes { chain (nodes.pair (nodes.inode 2) (nodes.container 0 6 1 5)) 16 0
+        ≡ Err (faults.BadLink 0) }
+    ensures other_previous_node { chain (nodes.pair (nodes.inode 1) (nodes.container 1 6 1 5)) 16 0
+        ≡ Err (faults.BadLink 0) }
+    ensures other_version { chain (nodes.pair (nodes.inode 1) (nodes.container 0 6 2 5)) 16 0
+        ≡ Err (faults.BadLink 0) }
+    ensures not_full { chain (nodes.pair (nodes.inode 1) (nodes.container 0 5 1 5)) 16 0
+        ≡ Err (faults.Count 5 6) }
+    ensures extent_past_the_blocks { chain (nodes.pair (nodes.inode 1) (nodes.container 0 6 1 16)) 16 0
+        ≡ Err (faults.Extent 1 0) }
+{}
+
+/// Metadata is well formed, and isn't where one of its parts is wrong.
+pub fn metadata_may_be_well_formed()
+    ensures well_formed { is_well_formed (nodes.metadata nodes.nodes_of_blob nodes.marks 1 8 2)
+        ≡ true }
+    ensures orphan { containers_placed (nodes.metadata (nodes.pair (nodes.inode 2) (nodes.container 0 6 1 5)) nodes.marks 1 8 2)
+        ≡ false }
+    ensures overlap { blocks_apart (nodes.metadata (nodes.pair (nodes.small_inode 1) (nodes.small_inode 2)) (0 ∷ 2 ∷ []) 2 3 2)
+        ≡ false }
+    ensures root_twice { roots_apart (nodes.metadata (nodes.pair nodes.empty_inode nodes.empty_inode) (0 ∷ []) 2 1 2)
+        ≡ false }
+    ensures bit_past_the_blocks { bits_right (nodes.metadata nodes.nodes_of_blob (19 ∷ nodes.marks) 1 8 2)
+        ≡ false }
+    ensures count { counts_right (nodes.metadata nodes.nodes_of_blob nodes.marks 1 7 2)
+        ≡ false }
+{}
