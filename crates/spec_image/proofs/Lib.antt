@@ -7,3 +7,4 @@ pub mod WholeLemmas
 pub mod SoundLemmas
 pub mod SampleJournalLemmas
 pub mod SampleNodeLemmas
+pub mod VolumeLemmas

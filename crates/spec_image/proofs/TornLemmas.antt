@@ -21,9 +21,9 @@ use Rattle.spec_record.specs.EntryBlocks.{entry_slots, ring_from, entry_at}
 use Rattle.spec_record.proofs.TestLemmas.{value_passed, some_ok, both_true, at_most}
 use Rattle.spec_image.specs.Journal.{Journal, journal_of, slot_past}
 use Rattle.spec_image.specs.Replay.{slots_of_all, StandFrom, onto, entries_from, replay_at, replay, next_slot, next_number}
-use Rattle.spec_image.specs.Volume.{image_super}
+use Rattle.spec_image.specs.Volume.{image_super, HasGeometry}
 use Rattle.spec_image.specs.Chance.{placed_from, placed_at, Accepts, SameSlots, NoChance}
-use Rattle.spec_image.specs.Torn.{bears, slot_block, IsUnfinished, HasGeometry, IsFinished, TornAdd}
+use Rattle.spec_image.specs.Torn.{bears, slot_block, IsUnfinished, IsFinished, TornAdd}
 use Rattle.spec_image.proofs.ReplayLemmas.{slots_more, slot_after, entries_stand, entries_go_on, few_entries}
 use Rattle.spec_image.proofs.SameLemmas.{length-ring, ring_slot}
 use Rattle.spec_image.proofs.EntryLemmas.{entry_read, read_slots, entry_local, length-ring_from, ring_from_get, count_of, commit_test}

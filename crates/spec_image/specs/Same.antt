@@ -1,8 +1,8 @@
 -- Images that agree in the parts of a volume on which a definition depends.
-use Rattle.std.specs.Prelude.{◌≡◌, ℕ, ◌<◌, List, length}
+use Rattle.std.specs.Prelude.{◌≡◌, ℕ, ◌<◌, List, length, slice_index}
 use Rattle.spec_disk.specs.Disk.{block}
 use Rattle.spec_record.specs.declared.geometry.Geometry.{Geometry}
-use Rattle.spec_record.specs.Geometry.{meta_blocks, ring_slots, info_at, slot_at}
+use Rattle.spec_record.specs.Geometry.{meta_blocks, ring_slots, info_at, slot_at, block_at}
 
 -- two images of one length with the same info block and the same block in each slot of the ring
 pub record SameJournal (g : Geometry) (a b : List (List ℕ)) : Type 0 where
@@ -13,3 +13,8 @@ pub record SameJournal (g : Geometry) (a b : List (List ℕ)) : Type 0 where
 -- the same metadata blocks
 abbrev pub SameMetadata : Geometry → List (List ℕ) → List (List ℕ) → Type 0
 SameMetadata g a b = (t : ℕ) → t < meta_blocks g → block a t ≡ block b t
+
+-- the same bytes in these data blocks
+abbrev pub SameBlocks : Geometry → List (List ℕ) → List (List ℕ) → List ℕ → Type 0
+SameBlocks g a b ds = (k : ℕ) → k < length ds
+    → block a (block_at g (slice_index ds k)) ≡ block b (block_at g (slice_index ds k))

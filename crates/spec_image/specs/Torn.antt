@@ -2,7 +2,7 @@
 --
 -- The entry is written behind those of the synced disk, and nothing else of the journal is. Where the
 -- image has its blocks in part, one of two blocks is missing: the header or the commit.
-use Rattle.std.specs.Prelude.{◌≡◌, ℕ, ◌+◌, ◌%◌, ◌<◌, ◌≤◌, ◌⊎◌, List, Bool, false, ◌&&◌, ◌==◌, Some, IsSomeAnd}
+use Rattle.std.specs.Prelude.{◌≡◌, ℕ, ◌+◌, ◌%◌, ◌<◌, ◌≤◌, ◌⊎◌, List, Bool, false, ◌&&◌, ◌==◌, Some}
 use Rattle.spec_disk.specs.declared.event.Event.{Event}
 use Rattle.spec_disk.specs.Disk.{block, synced_after, last_after}
 use Rattle.spec_record.specs.declared.geometry.Geometry.{Geometry}
@@ -14,7 +14,7 @@ use Rattle.spec_record.specs.Entry.{Entry}
 use Rattle.spec_record.specs.EntryBlocks.{entry_slots, entry_at}
 use Rattle.spec_image.specs.Journal.{journal_of}
 use Rattle.spec_image.specs.Replay.{slots_of_all, replay, next_slot, next_number}
-use Rattle.spec_image.specs.Volume.{image_super}
+use Rattle.spec_image.specs.Volume.{HasGeometry}
 use Rattle.spec_image.specs.Chance.{SameSlots}
 
 -- a block that begins with the magic of entries and this number
@@ -30,10 +30,6 @@ abbrev pub IsUnfinished : Geometry → List (List ℕ) → ℕ → ℕ → Type 
 IsUnfinished g image slot number =
     (bears number (slot_block g image slot 0) ≡ false)
     ⊎ ((k : ℕ) → 1 ≤ k → k < ring_slots g → bears number (slot_block g image slot k) ≡ false)
-
--- the image's superblock has this geometry
-abbrev pub HasGeometry : List (List ℕ) → Geometry → Type 0
-HasGeometry image g = IsSomeAnd (image_super image) (λ s. s.geometry ≡ g)
 
 -- all blocks of the entry that was last written at this slot are in the image, which has no entry
 -- behind it

@@ -20,6 +20,10 @@ use Rattle.spec_image.specs.Stored.{bytes_in, AllVerify}
 abbrev pub image_super : List (List ℕ) → Option Super
 image_super image = super_of (block image 0) (length image)
 
+-- the image's superblock has this geometry
+abbrev pub HasGeometry : List (List ℕ) → Geometry → Type 0
+HasGeometry image g = IsSomeAnd (image_super image) (λ s. s.geometry ≡ g)
+
 -- two geometries are the same
 abbrev pub same_geometry : Geometry → Geometry → Bool
 same_geometry a b =

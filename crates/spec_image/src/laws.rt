@@ -9,10 +9,12 @@ ghost use Rattle.spec_record.specs.Entry.{Entry};
 ghost use Rattle.spec_image.specs.After.{after};
 ghost use Rattle.spec_image.specs.Journal.{Journal, journal_of};
 ghost use Rattle.spec_image.specs.Replay.{IsReplay, replay};
-ghost use Rattle.spec_image.specs.Same.{SameJournal, SameMetadata};
+ghost use Rattle.spec_image.specs.Same.{SameJournal, SameMetadata, SameBlocks};
+ghost use Rattle.spec_image.specs.Chain.{BlobRecord};
+ghost use Rattle.spec_image.specs.Stored.{blocks_of, bytes_in};
 ghost use Rattle.spec_image.specs.Chance.{NoChance};
 ghost use Rattle.spec_image.specs.Torn.{TornAdd};
-ghost use Rattle.spec_image.specs.Volume.{IsWhole, IsSound};
+ghost use Rattle.spec_image.specs.Volume.{HasGeometry, blobs, IsWhole, IsSound};
 
 /// A journal has one longest list of entries, and `replay` is that list.
 pub fn a_journal_has_one_replay()
@@ -20,13 +22,17 @@ pub fn a_journal_has_one_replay()
     ensures alone { (j : Journal) (a b : List Entry) → IsReplay j a → IsReplay j b → a ≡ b }
 {}
 
-/// The replay of an image depends on the info block and the ring alone, and the replayed metadata on
-/// these and the metadata blocks.
-pub fn the_replay_depends_on_the_journal()
+/// The replay of an image depends on the info block and the ring alone, the replayed metadata and
+/// the map on these and the metadata blocks, and the bytes of a blob on its own blocks.
+pub fn an_image_depends_on_its_parts()
     ensures replay { (g : Geometry) (a b : List (List ℕ)) → SameJournal g a b
         → replay (journal_of g a) ≡ replay (journal_of g b) }
     ensures after { (g : Geometry) (a b : List (List ℕ)) → SameJournal g a b → SameMetadata g a b
         → after g a ≡ after g b }
+    ensures blobs { (g : Geometry) (a b : List (List ℕ))
+        → HasGeometry a g → SameJournal g a b → SameMetadata g a b → blobs a ≡ blobs b }
+    ensures bytes { (g : Geometry) (a b : List (List ℕ)) (r : BlobRecord)
+        → SameBlocks g a b (blocks_of r.extents) → bytes_in g a r ≡ bytes_in g b r }
 {}
 
 /// Neither an image in which the entry that was being written lacks its header or its commit, nor
