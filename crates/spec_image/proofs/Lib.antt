@@ -8,3 +8,5 @@ pub mod SoundLemmas
 pub mod SampleJournalLemmas
 pub mod SampleNodeLemmas
 pub mod VolumeLemmas
+pub mod ChainLemmas
+pub mod WellFormedLemmas

@@ -21,7 +21,7 @@ is_Equal Less e = cc
 is_Equal Equal e = refl
 is_Equal Greater e = cc
 
-one_root : (a b : Digest) → same_digest a b ≡ true → a ≡ b
+pub one_root : (a b : Digest) → same_digest a b ≡ true → a ≡ b
 one_root a b e = ap (λ (bytes : List ℕ). record { 0 = bytes }) (exact_bytes a.0 b.0 (is_Equal _ e))
 
 found_or_later : {A : Type 0} (b : Bool) (x y : A) (rest : Option A) → cond b (Some x) rest ≡ Some y → ((b ≡ true) × (x ≡ y)) ⊎ (rest ≡ Some y)

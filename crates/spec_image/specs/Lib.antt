@@ -6,6 +6,7 @@ pub mod Chain
 pub mod Metadata
 pub mod Blobs
 pub mod WellFormed
+pub mod WellFormedParts
 pub mod Window
 pub mod Stored
 pub mod Volume

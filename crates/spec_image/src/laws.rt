@@ -1,6 +1,6 @@
 //! Laws of the definitions: what each function here ensures holds of all values.
 
-ghost use Rattle.std.specs.Prelude.{◌≡◌, ℕ, List};
+ghost use Rattle.std.specs.Prelude.{◌≡◌, ℕ, List, true};
 ghost use Rattle.spec_disk.specs.declared.event.Event.{Event};
 ghost use Rattle.spec_tree.specs.declared.Digest.{Digest};
 ghost use Rattle.spec_record.specs.declared.geometry.Geometry.{Geometry};
@@ -13,7 +13,10 @@ ghost use Rattle.spec_image.specs.Same.{SameJournal, SameMetadata, SameBlocks};
 ghost use Rattle.spec_image.specs.Chain.{BlobRecord};
 ghost use Rattle.spec_image.specs.Stored.{blocks_of, bytes_in};
 ghost use Rattle.spec_image.specs.Chance.{NoChance};
+ghost use Rattle.spec_image.specs.Metadata.{Metadata};
 ghost use Rattle.spec_image.specs.Torn.{TornAdd};
+ghost use Rattle.spec_image.specs.WellFormed.{is_well_formed};
+ghost use Rattle.spec_image.specs.WellFormedParts.{WellFormed};
 ghost use Rattle.spec_image.specs.Volume.{HasGeometry, blobs, IsWhole, IsSound};
 
 /// A journal has one longest list of entries, and `replay` is that list.
@@ -45,4 +48,10 @@ pub fn a_torn_add_is_no_chance()
 /// Where each window of a blob verifies, its bytes have its root.
 pub fn a_sound_blob_is_whole()
     ensures { (image : List (List ℕ)) (root : Digest) → IsSound image root → IsWhole image root }
+{}
+
+/// The tests of metadata say that it is well formed, part by part.
+pub fn well_formed_metadata_has_all_its_parts()
+    ensures parts { (m : Metadata) → is_well_formed m ≡ true → WellFormed m }
+    ensures tests { (m : Metadata) → WellFormed m → is_well_formed m ≡ true }
 {}

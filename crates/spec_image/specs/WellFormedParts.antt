@@ -1,0 +1,19 @@
+-- What well-formed metadata is, part by part.
+use Rattle.std.specs.Prelude.{◌≡◌, ℕ, ◌+◌, ◌<◌, ◌≤◌, length, sum_by, true, IsOk}
+use Rattle.spec_tree.specs.declared.Digest.{Digest}
+use Rattle.spec_image.specs.Chain.{lengths, chain}
+use Rattle.spec_image.specs.Metadata.{Metadata}
+use Rattle.spec_image.specs.WellFormed.{records_of, extents_with, chains_with, blobs_named, is_inode, is_container, bit_wanted}
+
+pub record WellFormed (m : Metadata) : Type 0 where
+  pub nodes : (k : ℕ) → k < m.nodes.count → IsOk (m.nodes.read k)
+  pub chains : (k : ℕ) → k < m.nodes.count → is_inode (m.nodes.read k) ≡ true
+      → IsOk (chain m.nodes m.super.geometry.blocks k)
+  pub containers : (k : ℕ) → k < m.nodes.count → is_container (m.nodes.read k) ≡ true
+      → chains_with (records_of m) k ≡ 1
+  pub blocks : (d : ℕ) → extents_with (records_of m) d ≤ 1
+  pub roots : (root : Digest) → blobs_named (records_of m) root ≤ 1
+  pub bits : (d : ℕ) → d < m.bit_count → m.bit d ≡ bit_wanted m d
+  pub blob_count : m.super.blobs ≡ length (records_of m)
+  pub block_count : m.super.used_blocks ≡ 1 + sum_by (λ b. lengths b.extents) (records_of m)
+  pub node_count : m.super.used_nodes ≡ sum_by (λ b. length b.nodes) (records_of m)
