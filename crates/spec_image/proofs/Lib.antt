@@ -10,3 +10,4 @@ pub mod SampleNodeLemmas
 pub mod VolumeLemmas
 pub mod ChainLemmas
 pub mod WellFormedLemmas
+pub mod MapLemmas

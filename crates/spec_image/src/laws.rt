@@ -1,8 +1,12 @@
 //! Laws of the definitions: what each function here ensures holds of all values.
 
-ghost use Rattle.std.specs.Prelude.{◌≡◌, ℕ, List, true};
+ghost use Rattle.std.specs.Prelude.{◌≡◌, ℕ, List, true, find, option_map};
+ghost use Rattle.std.specs.BTreeMap.{is_at};
+ghost use Rattle.std.specs.List.Sorted.{IsStrictlySortedBy};
+ghost use Rattle.std.specs.Map.{lookup, keys_of};
 ghost use Rattle.spec_disk.specs.declared.event.Event.{Event};
 ghost use Rattle.spec_tree.specs.declared.Digest.{Digest};
+ghost use Rattle.spec_tree.specs.Order.{digest_cmp, same_digest};
 ghost use Rattle.spec_record.specs.declared.geometry.Geometry.{Geometry};
 ghost use Rattle.spec_record.specs.declared.info.Info.{Info};
 ghost use Rattle.spec_record.specs.Entry.{Entry};
@@ -10,6 +14,7 @@ ghost use Rattle.spec_image.specs.After.{after};
 ghost use Rattle.spec_image.specs.Journal.{Journal, journal_of};
 ghost use Rattle.spec_image.specs.Replay.{IsReplay, replay};
 ghost use Rattle.spec_image.specs.Same.{SameJournal, SameMetadata, SameBlocks};
+ghost use Rattle.spec_image.specs.Blobs.{value_of, blob_map};
 ghost use Rattle.spec_image.specs.Chain.{BlobRecord};
 ghost use Rattle.spec_image.specs.Stored.{blocks_of, bytes_in};
 ghost use Rattle.spec_image.specs.Chance.{NoChance};
@@ -54,4 +59,13 @@ pub fn a_sound_blob_is_whole()
 pub fn well_formed_metadata_has_all_its_parts()
     ensures parts { (m : Metadata) → is_well_formed m ≡ true → WellFormed m }
     ensures tests { (m : Metadata) → WellFormed m → is_well_formed m ≡ true }
+{}
+
+/// The map of some blobs stands in the order of the roots, and has at a root what the first blob with
+/// that root says.
+pub fn a_map_has_its_blobs_in_order()
+    ensures order { (bs : List BlobRecord) → IsStrictlySortedBy digest_cmp (keys_of (blob_map bs)) }
+    ensures value { (bs : List BlobRecord) (root : Digest)
+        → lookup (is_at (digest_cmp root)) (blob_map bs)
+        ≡ option_map value_of (find (λ b. same_digest root b.root) bs) }
 {}
