@@ -11,3 +11,5 @@ pub mod VolumeLemmas
 pub mod ChainLemmas
 pub mod WellFormedLemmas
 pub mod MapLemmas
+pub mod CountLemmas
+pub mod BitLemmas

@@ -78,7 +78,7 @@ past_extents blocks d (e ∷ es) good past =
     omega (arith, count_more d e es, here, past_extents blocks d es good.1 past)
 
 -- the extents of all blobs are in their ranges
-AllRecords : ℕ → List BlobRecord → Type 0
+unfoldable pub AllRecords : ℕ → List BlobRecord → Type 0
 AllRecords blocks [] = Unit {0}
 AllRecords blocks (b ∷ bs) = AllExtents blocks b.extents × AllRecords blocks bs
 
@@ -92,7 +92,7 @@ unfolding AllRecords
 read_extents ns blocks k (Ok b) e = (chain_extents ns blocks k b e, tt)
 read_extents ns blocks k (Err f) e = tt
 
-records_extents : (ns : Nodes) (blocks n : ℕ) → AllRecords blocks (records_below ns blocks n)
+pub records_extents : (ns : Nodes) (blocks n : ℕ) → AllRecords blocks (records_below ns blocks n)
 unfolding records_below AllRecords
 records_extents ns blocks zero = tt
 records_extents ns blocks (suc n) = all_append blocks (records_below ns blocks n) (read_of (chain ns blocks n)) (records_extents ns blocks n) (read_extents ns blocks n (chain ns blocks n) refl)

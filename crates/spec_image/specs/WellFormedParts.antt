@@ -1,5 +1,5 @@
--- What well-formed metadata is, part by part.
-use Rattle.std.specs.Prelude.{◌≡◌, ℕ, ◌+◌, ◌<◌, ◌≤◌, length, sum_by, true, IsOk}
+-- What well-formed metadata is, part by part, and what its counts count.
+use Rattle.std.specs.Prelude.{◌≡◌, ℕ, zero, suc, ◌+◌, ◌<◌, ◌≤◌, length, sum_by, Bool, true, ◌||◌, if◌then◌else◌, IsOk}
 use Rattle.spec_tree.specs.declared.Digest.{Digest}
 use Rattle.spec_image.specs.Chain.{lengths, chain}
 use Rattle.spec_image.specs.Metadata.{Metadata}
@@ -17,3 +17,18 @@ pub record WellFormed (m : Metadata) : Type 0 where
   pub blob_count : m.super.blobs ≡ length (records_of m)
   pub block_count : m.super.used_blocks ≡ 1 + sum_by (λ b. lengths b.extents) (records_of m)
   pub node_count : m.super.used_nodes ≡ sum_by (λ b. length b.nodes) (records_of m)
+
+-- how many numbers below n pass
+unfoldable pub count_below : ℕ → (ℕ → Bool) → ℕ
+count_below zero test = 0
+count_below (suc n) test = count_below n test + (if test n then 1 else 0)
+
+-- node k is in use: an inode or a container
+abbrev pub is_used : Metadata → ℕ → Bool
+is_used m k = is_inode (m.nodes.read k) || is_container (m.nodes.read k)
+
+-- the superblock's counts by its table: inodes in use, bits that are set, nodes in use
+pub record CountsUse (m : Metadata) : Type 0 where
+  pub blobs : m.super.blobs ≡ count_below m.nodes.count (λ k. is_inode (m.nodes.read k))
+  pub used_blocks : m.super.used_blocks ≡ count_below m.bit_count m.bit
+  pub used_nodes : m.super.used_nodes ≡ count_below m.nodes.count (is_used m)

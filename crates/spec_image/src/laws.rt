@@ -1,6 +1,6 @@
 //! Laws of the definitions: what each function here ensures holds of all values.
 
-ghost use Rattle.std.specs.Prelude.{◌≡◌, ℕ, List, true, find, option_map};
+ghost use Rattle.std.specs.Prelude.{◌≡◌, ◌<◌, ◌≤◌, ℕ, List, true, find, option_map};
 ghost use Rattle.std.specs.BTreeMap.{is_at};
 ghost use Rattle.std.specs.List.Sorted.{IsStrictlySortedBy};
 ghost use Rattle.std.specs.Map.{lookup, keys_of};
@@ -21,7 +21,7 @@ ghost use Rattle.spec_image.specs.Chance.{NoChance};
 ghost use Rattle.spec_image.specs.Metadata.{Metadata};
 ghost use Rattle.spec_image.specs.Torn.{TornAdd};
 ghost use Rattle.spec_image.specs.WellFormed.{is_well_formed};
-ghost use Rattle.spec_image.specs.WellFormedParts.{WellFormed};
+ghost use Rattle.spec_image.specs.WellFormedParts.{WellFormed, CountsUse};
 ghost use Rattle.spec_image.specs.Volume.{HasGeometry, blobs, IsWhole, IsSound};
 
 /// A journal has one longest list of entries, and `replay` is that list.
@@ -59,6 +59,13 @@ pub fn a_sound_blob_is_whole()
 pub fn well_formed_metadata_has_all_its_parts()
     ensures parts { (m : Metadata) → is_well_formed m ≡ true → WellFormed m }
     ensures tests { (m : Metadata) → WellFormed m → is_well_formed m ≡ true }
+{}
+
+/// The counts of well-formed metadata are the inodes in use, the bits that are set and the nodes in
+/// use, where the bitmap has a bit for each data block.
+pub fn the_counts_are_what_is_in_use()
+    ensures { (m : Metadata) → WellFormed m → 0 < m.bit_count
+        → m.super.geometry.blocks ≤ m.bit_count → CountsUse m }
 {}
 
 /// The map of some blobs stands in the order of the roots, and has at a root what the first blob with
