@@ -1,0 +1,3 @@
+-- Lemmas on runs of calls over a stream.
+pub mod StreamLemmas
+pub mod CallerLemmas

@@ -1,0 +1,18 @@
+-- Counts of failed calls, by which a caller sees that an object failed and no body made it up.
+use Rattle.std.specs.Prelude.{◌≡◌, ℕ, ◌+◌, ◌-◌, ◌^◌, ◌≤◌, min, Result, OnOk, OnErr}
+
+-- A count has risen. At the top of a `u64` it stands still, and each further failure counts as a rise.
+abbrev pub Rose : ℕ → ℕ → Type 0
+Rose before now = min (before + 1) (2 ^ 64 - 1) ≤ now
+
+-- The count never falls, an error comes only where it rose, and none is passed over at `Ok`.
+pub record CountsFaults {T E : Type 0} (before now : ℕ) (result : Result T E) : Type 0 where
+  pub later : before ≤ now
+  pub failed : OnErr result (Rose before now)
+  pub kept : OnOk result (now ≡ before)
+
+-- The same, where only the answer P tells of a fault, and each other answer leaves the count.
+pub record CountsFaultsWhere (P : Type 0) (before now : ℕ) : Type 0 where
+  pub later : before ≤ now
+  pub failed : P → Rose before now
+  pub kept : ¬ P → now ≡ before

@@ -1,0 +1,25 @@
+//! Streams: where bytes come from and go to, with counts of faults, and both in memory.
+#![tactic(auto)]
+
+mod failed;
+mod filling;
+mod giving;
+mod memory_sink;
+mod memory_source;
+mod reading;
+mod schedule;
+mod sink;
+mod source;
+#[cfg(test)]
+mod tests;
+mod trickle;
+
+pub use failed::Failed;
+pub use filling::fill;
+pub use giving::give_all;
+pub use memory_sink::MemSink;
+pub use memory_source::MemSource;
+pub use reading::{ReadAllFault, read_all};
+pub use sink::Sink;
+pub use source::Source;
+pub use trickle::Trickle;
