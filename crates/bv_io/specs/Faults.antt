@@ -1,7 +1,7 @@
 -- Counts of failed calls, by which a caller sees that an object failed and no body made it up.
 use Rattle.std.specs.Prelude.{◌≡◌, ℕ, ◌+◌, ◌-◌, ◌^◌, ◌≤◌, min, Result, OnOk, OnErr}
 
--- A count has risen. At the top of a `u64` it stands still, and each further failure counts as a rise.
+-- A count has risen. At the top of a `u64` it stands still, and each further failure is a rise.
 abbrev pub Rose : ℕ → ℕ → Type 0
 Rose before now = min (before + 1) (2 ^ 64 - 1) ≤ now
 

@@ -3,7 +3,8 @@
 use Rattle.std.specs.Prelude.{◌≡◌, ℕ, ◌-◌, ◌<◌, ◌≤◌, List, ◌++◌, length, take, Option, None, Some}
 use Rattle.std.specs.Io.KnownBytes.{Appends, Consumes, IsAtEnd}
 
--- one call moved n bytes from the front of what was left into the buffer: none only at the end, or with no room
+-- one call moved n bytes from the front of what was left into the buffer: none only at the end,
+-- or with no room
 pub record Takes (old new : Option (List ℕ)) (buffer : List ℕ) (n : ℕ) : Type 0 where
   pub within : n ≤ length buffer
   pub moved : Consumes old new (take n buffer)

@@ -8,8 +8,8 @@ use crate::{Failed, Sink};
 use std::alloc::Global;
 use std::marker::Model;
 
-/// Bytes that were given, in memory. A call takes the whole piece. Where it finds no memory it fails,
-/// and counts that apart too.
+/// Bytes that were given, in memory. A call takes the whole piece. Where it finds no memory it
+/// fails, and counts that apart too.
 #[derive(Drop)]
 pub struct MemSink {
     bytes: Vec<u8>,
@@ -33,7 +33,8 @@ impl Model for MemSink {
 impl MemSink {
     /// An empty sink. The calls of `give` whose numbers, from 1, stand in `fails` fail.
     pub fn new(fails: Vec<u64>, alloc: Global) -> MemSink
-        ensures { result ≡ record { given = []; fails = fails.items; calls = 0; faults = 0; short = 0 } }
+        ensures { result
+            ≡ record { given = []; fails = fails.items; calls = 0; faults = 0; short = 0 } }
     {
         MemSink {
             bytes: Vec::new(alloc),
@@ -64,10 +65,13 @@ impl Sink for MemSink {
     ghost faults = { λ s. s.faults };
 
     fn give(&mut self, from: &[u8]) -> Result<usize, Failed>
-        ensures ok { IfOk result (λ n. (n ≡ length from.now) × (self.new.given ≡ self.old.given ++ from.now)) }
+        ensures ok { IfOk result
+            (λ n. (n ≡ length from.now) × (self.new.given ≡ self.old.given ++ from.now)) }
         ensures err { OnErr result (self.new.given ≡ self.old.given) }
-        ensures named { IsNamed self.old.fails self.old.calls → IsErr result × (self.new.short ≡ self.old.short) }
-        ensures cause { OnErr result (IsNamed self.old.fails self.old.calls ⊎ Rose self.old.short self.new.short) }
+        ensures named { IsNamed self.old.fails self.old.calls
+            → IsErr result × (self.new.short ≡ self.old.short) }
+        ensures cause { OnErr result
+            (IsNamed self.old.fails self.old.calls ⊎ Rose self.old.short self.new.short) }
         ensures short { OnOk result (self.new.short ≡ self.old.short) }
         ensures calls { self.new.calls ≡ next_call self.old.calls }
         ensures fails { self.new.fails ≡ self.old.fails }

@@ -38,13 +38,14 @@ impl From<AllocError> for ReadAllFault {
 }
 
 /// All the bytes that a source has left, of which there may be `limit`. After a fault the bytes
-/// that were taken are gone. Each turn takes a byte at least, and never more than one past the limit.
+/// that were taken are gone. Each turn takes a byte at least, so there are at most `limit + 2`.
 pub fn read_all<S: Source>(
     alloc: Global,
     source: &mut S,
     limit: u64,
 ) -> Result<Vec<u8>, ReadAllFault>
-    ensures ok { IfOk result (λ bytes. TakesAll (S.left source.old) (S.left source.new) bytes.items) }
+    ensures ok { IfOk result
+        (λ bytes. TakesAll (S.left source.old) (S.left source.new) bytes.items) }
     ensures err { OnErr result (TakesSome (S.left source.old) (S.left source.new)) }
     ensures too_long { IfSome (taken_count (S.left source.old) (S.left source.new))
         (λ n. (n ≤ limit + 1) × ((result ≡ Err ReadAllFault.TooLong) ↔ (limit < n))) }

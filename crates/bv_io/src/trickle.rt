@@ -18,7 +18,8 @@ impl<S: Source> Source for Trickle<S> {
     ghost faults = { λ t. S.faults t.inner };
 
     fn take(&mut self, into: &mut [u8]) -> Result<usize, Failed>
-        ensures ok { IfOk result (λ n. Takes (S.left self.old.inner) (S.left self.new.inner) into.new n) }
+        ensures ok { IfOk result
+            (λ n. Takes (S.left self.old.inner) (S.left self.new.inner) into.new n) }
         ensures one { IfOk result (λ n. n ≤ 1) }
         ensures err { OnErr result (Keeps (S.left self.old.inner) (S.left self.new.inner)) }
         ensures faults { CountsFaults (S.faults self.old.inner) (S.faults self.new.inner) result }
@@ -34,7 +35,8 @@ impl<K: Sink> Sink for Trickle<K> {
     ghost faults = { λ t. K.faults t.inner };
 
     fn give(&mut self, from: &[u8]) -> Result<usize, Failed>
-        ensures ok { IfOk result (λ n. Gives (K.given self.old.inner) (K.given self.new.inner) from.now n) }
+        ensures ok { IfOk result
+            (λ n. Gives (K.given self.old.inner) (K.given self.new.inner) from.now n) }
         ensures one { IfOk result (λ n. n ≤ 1) }
         ensures err { OnErr result (Keeps (K.given self.old.inner) (K.given self.new.inner)) }
         ensures faults { CountsFaults (K.faults self.old.inner) (K.faults self.new.inner) result }
