@@ -1,0 +1,9 @@
+pub mod EntryLemmas
+pub mod ListLemmas
+pub mod ViewLemmas
+pub mod RuleLemmas
+pub mod Waiting
+pub mod Passing
+pub mod Sharing
+pub mod Ends
+pub mod ShareLemmas
