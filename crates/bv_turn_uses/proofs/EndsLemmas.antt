@@ -10,7 +10,7 @@ use Rattle.bv_turn.specs.Tokens.{IsOf, IsIdle, session_of, list_of, KnowsEntries
 use Rattle.bv_turn_uses.specs.declared.event.Event.{Event}
 use Rattle.bv_turn_uses.specs.declared.script.Script.{Script}
 use Rattle.bv_turn_uses.specs.declared.session.Ended.{Ended}
-use Rattle.bv_turn_uses.specs.Ends.{EndOf, Ends}
+use Rattle.bv_turn_uses.specs.Ends.{IsReady, ComesBack, EndOf, Ends}
 use Rattle.bv_turn_uses.specs.Events.{Served, AllServed}
 
 module _ {A : Type 0} where
@@ -30,8 +30,8 @@ module _ {A : Type 0} where
 
 -- a promise or a closure that is given back speaks of the values that it was made of
 pub moved : {T B : Type 0} {k : Ghosts T Event B} {t t' : Turn T Event B} {script script' : Script} {s s' : Share T Event B k} {e e' : Ended T Event B k}
-    → t ≡ t' → script ≡ script' → s ≡ s' → e ≡ e' → EndOf t script s e.share e.whole → EndOf t' script' s' e'.share e'.whole
-moved {T} {B} {k} a b c d = subst (λ (y : Turn T Event B × Script × Share T Event B k × Ended T Event B k). EndOf y.0 y.1 y.2 y.3.share y.3.whole) (λ i. (a i, b i, c i, d i))
+    → t ≡ t' → script ≡ script' → s ≡ s' → e ≡ e' → EndOf t script s e → EndOf t' script' s' e'
+moved {T} {B} {k} a b c d = subst (λ (y : Turn T Event B × Script × Share T Event B k × Ended T Event B k). EndOf y.0 y.1 y.2 y.3) (λ i. (a i, b i, c i, d i))
 
 module _ {T B : Type 0} {k : Ghosts T Event B} (t : Turn T Event B) (script : Script) where
   pub Ends-length : (ss es : List (Share T Event B k)) (ws : List Bool) → Ends t script ss es ws → (length es ≡ length ss) × (length ws ≡ length ss)
@@ -43,7 +43,7 @@ module _ {T B : Type 0} {k : Ghosts T Event B} (t : Turn T Event B) (script : Sc
   Ends-length (s ∷ ss) (e ∷ es) (w ∷ ws) h = let r = Ends-length ss es ws h.1 in (ap suc r.0, ap suc r.1)
 
   -- one share more comes back
-  pub Ends-snoc : (ss es : List (Share T Event B k)) (ws : List Bool) (s e : Share T Event B k) (w : Bool) → Ends t script ss es ws → EndOf t script s e w → Ends t script (ss ++ s ∷ []) (es ++ e ∷ []) (ws ++ w ∷ [])
+  pub Ends-snoc : (ss es : List (Share T Event B k)) (ws : List Bool) (s e : Share T Event B k) (w : Bool) → Ends t script ss es ws → ComesBack t script s e w → Ends t script (ss ++ s ∷ []) (es ++ e ∷ []) (ws ++ w ∷ [])
   Ends-snoc [] [] [] s e w h one = (one, tt)
   Ends-snoc [] [] (w' ∷ ws) s e w h one = absurd h
   Ends-snoc [] (e' ∷ es) ws s e w h one = absurd h
@@ -53,11 +53,11 @@ module _ {T B : Type 0} {k : Ghosts T Event B} (t : Turn T Event B) (script : Sc
 
   -- the share at each place
   pub Ends-at : (ss es : List (Share T Event B k)) (ws : List Bool) → Ends t script ss es ws → (n : ℕ) (s : Share T Event B k) → slice_get ss n ≡ Some s
-      → (e : Share T Event B k) × (w : Bool) × (slice_get es n ≡ Some e) × (slice_get ws n ≡ Some w) × EndOf t script s e w
+      → (e : Share T Event B k) × (w : Bool) × (slice_get es n ≡ Some e) × (slice_get ws n ≡ Some w) × ComesBack t script s e w
   Ends-at [] es ws h n s at = absurd (cc)
   Ends-at (s' ∷ ss) [] ws h n s at = absurd h
   Ends-at (s' ∷ ss) (e ∷ es) [] h n s at = absurd h
-  Ends-at (s' ∷ ss) (e ∷ es) (w ∷ ws) h zero s at = let same : s' ≡ s = cc in (e, w, refl, refl, subst (λ x. EndOf t script x e w) same h.0)
+  Ends-at (s' ∷ ss) (e ∷ es) (w ∷ ws) h zero s at = let same : s' ≡ s = cc in (e, w, refl, refl, subst (λ x. ComesBack t script x e w) same h.0)
   Ends-at (s' ∷ ss) (e ∷ es) (w ∷ ws) h (suc n) s at = Ends-at ss es ws h.1 n s at
 
   -- each comes back idle
@@ -69,9 +69,9 @@ module _ {T B : Type 0} {k : Ghosts T Event B} (t : Turn T Event B) (script : Sc
   Ends-idle (s ∷ ss) (e ∷ es) (w ∷ ws) h = All-cons (λ x. IsOf t x × IsIdle x) e es (h.0.this, h.0.idle) (Ends-idle ss es ws h.1)
 
   module _ (base : B) (shares : List (Share T Event B k)) (fresh : AreFresh t base shares) where
-    pub fresh_all : All (λ s. IsOf t s × IsIdle s × (list_of s ≡ [])) shares
+    pub fresh_all : All (IsReady t) shares
     fresh_all n d low = let f = fresh n low in
-        subst (λ s. IsOf t s × IsIdle s × (list_of s ≡ [])) (sym (index_from_get shares n f.0 d f.1)) (f.2, f.3, f.5)
+        subst (IsReady t) (sym (index_from_get shares n f.0 d f.1)) (f.2, f.3, f.5)
 
     module _ (es : List (Share T Event B k)) (ws : List Bool) (ends : Ends t script shares es ws) (x : T) where
       pub all_served : All (λ s. KnowsEntries s x) es → AllServed k.session (length shares) script.lines.items (k.entries x) ws

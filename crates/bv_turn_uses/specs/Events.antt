@@ -11,7 +11,8 @@ event s amount = record { session = s; amount = amount }
 abbrev pub events_of : ℕ → List Line → List Event
 events_of s lines = map (λ l. event s l.amount) (filter (λ l. l.session == s) lines)
 
--- a session's list is the events of the first lines, and where it did all, those of the whole script
+-- A session's list is the events of the first lines of the script, and where it did all its lines,
+-- those of the whole script
 pub record Served (s : ℕ) (lines : List Line) (list : List Event) (whole : Bool) : Type 0 where
   pub begins : (n : ℕ) × (list ≡ events_of s (take n lines))
   pub all : whole ≡ true → list ≡ events_of s lines

@@ -1,7 +1,6 @@
 //! A thread for each session.
 ghost use Rattle.std.specs.Prelude.{◌≡◌, ◌+◌, ◌<◌, ◌≤◌, [], ◌∷◌, ◌++◌, length, All, IfOk, IfErr, vec_len, vec_capacity};
-ghost use Rattle.bv_turn.specs.Tokens.{IsOf, IsIdle, list_of};
-ghost use Rattle.bv_turn_uses.specs.Ends.{EndOf, Ends, HasRoom, SameRoom};
+ghost use Rattle.bv_turn_uses.specs.Ends.{IsReady, EndOf, AllBack, IsEmptyFor, SameRoom};
 ghost use Rattle.bv_turn_uses.specs.Events.{AllServed};
 ghost use denote.Param.Send.{IsSync};
 
@@ -24,7 +23,7 @@ struct SessionOf<T: Keeps> {
 }
 
 impl<T: Adds> Promise<Ended<T>> for SessionOf<T> {
-    ghost kept_by = { λ p r. EndOf p.turn.value p.script.value p.share.value r.share r.whole };
+    ghost kept_by = { λ p r. EndOf p.turn.value p.script.value p.share.value r };
 }
 
 /// The shares that came back, in the order of their sessions, and whether each did all its lines.
@@ -43,10 +42,9 @@ fn run_each<R: Threads + Wait + Sync, T: Adds + Send>(
     script: &Script,
     back: Back<T>,
 ) -> Back<T>
-    requires of { All (λ s. IsOf turn.now s × IsIdle s × (list_of s ≡ [])) shares.items }
-    requires empty { (back.shares.items ≡ []) × (back.whole.items ≡ []) }
-    requires room { HasRoom (vec_len shares) back }
-    ensures ends { Ends turn.now script.now shares.items result.shares.items result.whole.items }
+    requires ready { All (IsReady turn.now) shares.items }
+    requires room { IsEmptyFor (vec_len shares) back }
+    ensures back { AllBack turn.now script.now shares.items result }
     ensures room { SameRoom back result }
 {
     let mut left = shares;
@@ -57,10 +55,10 @@ fn run_each<R: Threads + Wait + Sync, T: Adds + Send>(
         thread::scope_env(),
         rt,
         |scope| -> Back<T>
-            requires { IsSync R.row × All (λ s. IsOf turn.now s × IsIdle s × (list_of s ≡ [])) left.items
-                × IsOf turn.now share × IsIdle share × (list_of share ≡ [])
-                × (back.shares.items ≡ []) × (back.whole.items ≡ []) × HasRoom (vec_len left + 1) back }
-            ensures { Ends turn.entry.now script.entry.now (left.items ++ share ∷ []) result.shares.items result.whole.items × SameRoom back result }
+            requires { IsSync R.row × All (IsReady turn.now) left.items × IsReady turn.now share
+                × IsEmptyFor (vec_len left + 1) back }
+            ensures { AllBack turn.entry.now script.entry.now (left.items ++ share ∷ []) result
+                × SameRoom back result }
         {
             let promise = SessionOf {
                 turn: Snapshot::of(turn),
@@ -70,8 +68,8 @@ fn run_each<R: Threads + Wait + Sync, T: Adds + Send>(
             let started = scope.spawn_with(
                 promise,
                 move || -> Ended<T>
-                    requires { IsOf turn.now share × IsIdle share × (list_of share ≡ []) }
-                    ensures { EndOf turn.entry.now script.entry.now share result.share result.whole }
+                    requires { IsReady turn.now share }
+                    ensures { EndOf turn.entry.now script.entry.now share result }
                 { run_session(rt, turn, share, script) },
             );
             let back = run_each(rt, turn, left, script, back);
@@ -84,8 +82,10 @@ fn run_each<R: Threads + Wait + Sync, T: Adds + Send>(
     )
 }
 
+// The share that came back goes behind the others.
 fn with<T: Keeps>(back: Back<T>, ended: Ended<T>) -> Back<T>
-    requires { HasRoom (vec_len back.shares + 1) back × (vec_len back.whole ≡ vec_len back.shares) }
+    requires shares { vec_len back.shares < vec_capacity back.shares }
+    requires whole { vec_len back.whole < vec_capacity back.whole }
     ensures shares { result.shares.items ≡ back.shares.items ++ ended.share ∷ [] }
     ensures whole { result.whole.items ≡ back.whole.items ++ ended.whole ∷ [] }
     ensures room { SameRoom back result }
@@ -128,8 +128,7 @@ pub fn run_sessions<R: Threads + Wait + Sync, T: Adds + Send>(
 }
 
 fn room_for<T: Keeps>(alloc: Global, count: usize) -> Result<Back<T>, AllocError>
-    ensures { IfOk result (λ b.
-        (b.shares.items ≡ []) × (b.whole.items ≡ []) × HasRoom count b) }
+    ensures { IfOk result (IsEmptyFor count) }
 {
     Ok(Back {
         shares: Vec::with_capacity(alloc, count)?,

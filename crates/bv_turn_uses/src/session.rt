@@ -1,8 +1,8 @@
 //! What one session does: a holding of the turn for each of its lines.
 ghost use Rattle.std.specs.Prelude.{◌≡◌, ◌++◌, ◌∷◌, [], true, OnOk, OnErr};
 ghost use Rattle.bv_turn.specs.Tokens.{IsOf, IsIdle, session_of, list_of, basis_of};
-ghost use Rattle.bv_turn_uses.specs.Events.{event, Served};
-ghost use Rattle.bv_turn_uses.specs.Ends.{EndOf};
+ghost use Rattle.bv_turn_uses.specs.Events.{event};
+ghost use Rattle.bv_turn_uses.specs.Ends.{IsReady, ComesBack, EndOf};
 
 use crate::adds::Adds;
 use crate::script::Script;
@@ -24,8 +24,8 @@ pub fn run_session<R: Wait, T: Adds>(
     share: Share<T>,
     script: &Script,
 ) -> Ended<T>
-    requires { IsOf turn.now share × IsIdle share × (list_of share ≡ []) }
-    ensures { EndOf turn.now script.now share result.share result.whole }
+    requires { IsReady turn.now share }
+    ensures { EndOf turn.now script.now share result }
 {
     let mut share = share;
     let whole = run_lines(rt, turn, &mut share, script);
@@ -38,8 +38,8 @@ fn run_lines<R: Wait, T: Adds>(
     share: &mut Share<T>,
     script: &Script,
 ) -> bool
-    requires { IsOf turn.now share.old × IsIdle share.old × (list_of share.old ≡ []) }
-    ensures { EndOf turn.now script.now share.old share.new result }
+    requires { IsReady turn.now share.old }
+    ensures { ComesBack turn.now script.now share.old share.new result }
 {
     for line in &script.lines {
         if line.session == share.session() && add(rt, turn, share, line.amount).is_err() {
