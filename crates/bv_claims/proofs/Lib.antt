@@ -1,0 +1,7 @@
+pub mod Counts
+pub mod Marks
+pub mod Sums
+pub mod Moves
+pub mod Bosses
+pub mod Opening
+pub mod Searches
