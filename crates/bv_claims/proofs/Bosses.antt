@@ -1,5 +1,5 @@
 -- What the boss has after a claim was completed, and lists of blocks in rising order.
-use Rattle.std.proofs.Common.{◌≡◌, ◌≢◌, ℕ, zero, suc, ◌+◌, ◌-◌, ◌<◌, ◌≤◌, ◌==◌, ◌⊎◌, true, false, List, [], ◌∷◌, ◌++◌, length, get_or, take, if◌then◌else◌, sym, refl, ap, ◌∙◌, subst, inl, inr, ⊎_elim, arith, length-append, append_assoc}
+use Rattle.std.proofs.Common.{◌≡◌, ◌≢◌, ℕ, zero, suc, ◌+◌, ◌<◌, ◌≤◌, ◌==◌, List, [], ◌∷◌, ◌++◌, length, get_or, take, if◌then◌else◌, sym, refl, ap, ◌∙◌, arith, length-append, append_assoc}
 use Rattle.std.specs.List.{sum_by}
 use Rattle.std.specs.List.Sorted.{IsPermutation, IsNonDecreasing}
 use Rattle.std.proofs.lemmas.List.Sorted.{sum_by-IsPermutation}
@@ -7,11 +7,10 @@ use Rattle.std.proofs.lemmas.List.Sums.{sum_by-cons}
 use Rattle.std.proofs.lemmas.Bool.Decides.{nat_tests}
 use Rattle.std.proofs.lemmas.List.{take_more}
 use mathlib.Core.Logic.{dite}
-use native.Mathlib.Decide.{ℕ_discrete, dec_lt}
+use native.Mathlib.Decide.{ℕ_discrete}
 use Rattle.bv_claims.specs.declared.rule.View.{View}
 use Rattle.bv_claims.specs.Blocks.{times, HaveSameBlocks, HasEachOnce, Rises}
-use Rattle.bv_claims.specs.Views.{worth, after_join}
-use Rattle.bv_claims.specs.Rule.{IsOutside}
+use Rattle.bv_claims.specs.Views.{after_join}
 use Rattle.bv_claims.specs.Steps.{IsReviewed}
 use Rattle.bv_claims.specs.Search.{HasSearched, HasCompleted}
 use Rattle.bv_claims.proofs.Counts.{times-append}

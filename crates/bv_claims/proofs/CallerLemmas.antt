@@ -1,6 +1,6 @@
 -- For callers: what the boss took over, it may free, also after it took over more.
-use Rattle.std.proofs.Common.{◌≡◌, ◌≤◌, ◌+◌, ℕ, List, ◌++◌, arith}
-use Rattle.bv_claims.specs.Blocks.{times, HaveSameBlocks, IsPartOf}
+use Rattle.std.proofs.Common.{ℕ, List, ◌++◌, arith}
+use Rattle.bv_claims.specs.Blocks.{HaveSameBlocks, IsPartOf}
 use Rattle.bv_claims.proofs.Counts.{times-append}
 
 -- what was taken is a part of what the boss owns then

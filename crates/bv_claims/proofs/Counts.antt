@@ -1,5 +1,5 @@
 -- How often blocks stand in lists, and sums over all views.
-use Rattle.std.proofs.Common.{◌≡◌, ◌≢◌, ℕ, zero, suc, ◌+◌, ◌-◌, ◌<◌, ◌≤◌, Bool, true, false, List, [], ◌∷◌, ◌++◌, length, set, sym, refl, ap, ◌∙◌, subst, ⊎_elim, arith, length-append}
+use Rattle.std.proofs.Common.{◌≡◌, ◌≢◌, ℕ, zero, suc, ◌+◌, ◌<◌, ◌≤◌, Bool, false, List, [], ◌∷◌, ◌++◌, length, set, sym, refl, ap, subst, ⊎_elim, if◌then◌else◌, arith}
 use Rattle.std.proofs.lemmas.Bool.Decides.{nat_tests}
 use mathlib.Core.Logic.{dite}
 use native.Mathlib.Decide.{ℕ_discrete}
@@ -8,7 +8,8 @@ use lib.ListN.{get_elem?}
 use Rattle.atomic_table.proofs.Lists.{at_set}
 use Rattle.bv_claims.specs.declared.rule.View.{View}
 use Rattle.bv_claims.specs.Blocks.{times, without}
-use Rattle.bv_claims.specs.Rule.{total, owns}
+use Rattle.bv_claims.specs.Views.{boss_count}
+use Rattle.bv_claims.specs.Rule.{total}
 
 pub times-append : (b : ℕ) (xs ys : List ℕ) → times b (xs ++ ys) ≡ times b xs + times b ys
 times-append b [] ys = omega arith
@@ -75,3 +76,9 @@ all_set F views id w mine others j u e = ⊎_elim
     (λ (x : (j ≡ id) × (w ≡ u)). subst (λ (y : ℕ × View). F y.0 y.1) (λ i. (sym x.0 i, x.1 i)) mine)
     (λ (x : (j ≢ id) × (get_elem? views j ≡ some u)). others j u x.0 x.1)
     (at_set views id j w u e)
+
+pub boss_count_same : (v w : View) → w.boss ≡ v.boss → boss_count w ≡ boss_count v
+boss_count_same v w e = let f : Bool → ℕ = λ k. if k then 1 else 0 in ap f e
+
+pub boss_count_none : (v : View) → v.boss ≡ false → boss_count v ≡ 0
+boss_count_none v e = let f : Bool → ℕ = λ k. if k then 1 else 0 in ap f e

@@ -1,5 +1,5 @@
 -- Each kind of step keeps the rule of reservations.
-use Rattle.std.proofs.Common.{◌≡◌, ◌≢◌, ℕ, zero, suc, ◌+◌, ◌-◌, ◌*◌, ◌/◌, ◌%◌, ◌^◌, ◌<◌, ◌≤◌, ◌⊎◌, Bool, true, false, true≢false, List, [], ◌∷◌, ◌++◌, length, get_or, set, sym, refl, ap, ◌∙◌, subst, inl, inr, ⊎_elim, arith, length-set, length-append}
+use Rattle.std.proofs.Common.{◌≡◌, ◌≢◌, ℕ, ◌+◌, ◌-◌, ◌/◌, ◌%◌, ◌^◌, ◌<◌, ◌≤◌, true, false, true≢false, List, [], ◌∷◌, ◌++◌, length, get_or, set, sym, refl, ap, ◌∙◌, subst, inl, inr, ⊎_elim, arith, length-set, length-append}
 use Rattle.std.proofs.lemmas.List.{set-get_or}
 use Rattle.std.specs.Int.{bit_at}
 use Rattle.std.specs.Int.Bits.{bit_or, bit_and}
@@ -10,20 +10,20 @@ use lib.ListN.{get_elem?}
 use Rattle.atomic_table.specs.Table.{State, keeps, step, stepped, Allows, Splits, Joins}
 use Rattle.atomic_table.proofs.Lists.{at_snoc, set_else}
 use Rattle.bv_claims.specs.declared.rule.View.{View}
-use Rattle.bv_claims.specs.Blocks.{times, without, blocks_of_word}
-use Rattle.bv_claims.specs.Views.{worth, after_win, after_loss, after_full_word, after_hold, after_free, after_grant, grant_view, after_join, spent_view}
-use Rattle.bv_claims.specs.Rule.{words_for, mark, total, owns, IsOutside, FitsBoss, AllFit, IsReserved}
-use Rattle.bv_claims.specs.Steps.{Seated, IsSetOf, IsClearOf, ClaimTells, LookTells, HoldTells, FreeTells, ReviewTells}
-use Rattle.bv_claims.proofs.Counts.{times-append, times_same, times_other, times-without, length-without, times-le-length, total-set, total-snoc, le-total, total-others, all_set}
+use Rattle.bv_claims.specs.Blocks.{times, blocks_of_word}
+use Rattle.bv_claims.specs.Views.{worth, boss_count, after_win, after_loss, after_full_word, after_hold, after_free, after_grant, grant_view, after_join, spent_view}
+use Rattle.bv_claims.specs.Rule.{words_for, mark, total, owns, IsOutside, FitsBoss, IsReserved}
+use Rattle.bv_claims.specs.Steps.{Seated, ClaimTells, LookTells, HoldTells, FreeTells, ReviewTells}
+use Rattle.bv_claims.proofs.Counts.{boss_count_same, boss_count_none, times-append, times_same, times_other, times-without, length-without, times-le-length, total-set, total-snoc, le-total, total-others, all_set}
 use Rattle.bv_claims.proofs.Marks.{mark_is, mark-le-1, taken_is, with_set, with_clear, set_here, set_elsewhere, clear_here, clear_elsewhere, full_word, set_of_one, clear_of_one, of_word}
 use Rattle.bv_claims.proofs.Sums.{room_for, reviewed}
 
 -- a step that changes the marks as it changes what its seat owns, and keeps the worth of the view
 changed : (blocks : ℕ) (s : State (Unit {0}) View) (h : IsReserved blocks s) (id : ℕ) (me : Seated) (w : View) (i n : ℕ) → get_elem? s.views id ≡ some me.0
-    → ((c : ℕ) → mark (set s.words i n) c + owns c me.0 ≡ mark s.words c + owns c w) → ((c : ℕ) → IsOutside blocks c → owns c w ≡ owns c me.0) → worth w ≡ worth me.0
+    → ((c : ℕ) → mark (set s.words i n) c + owns c me.0 ≡ mark s.words c + owns c w) → ((c : ℕ) → IsOutside blocks c → owns c w ≡ owns c me.0) → worth w ≡ worth me.0 → w.boss ≡ me.0.boss
     → FitsBoss (set s.words i n) id w → ((j : ℕ) (u : View) → j ≢ id → FitsBoss s.words j u → FitsBoss (set s.words i n) j u)
     → IsReserved blocks (stepped s i n id me.1 w keeps)
-changed blocks s h id me w i n at tied outside worth_is fits others =
+changed blocks s h id me w i n at tied outside worth_is boss_is fits others =
     let t : (c : ℕ) → total (owns c) (set s.views id w) + owns c me.0 ≡ total (owns c) s.views + owns c w = λ c. total-set (owns c) s.views id me.0 w at in
     record {
       counted = (h.counted.0, length-set s.words i n ∙ h.counted.1);
@@ -32,6 +32,7 @@ changed blocks s h id me w i n at tied outside worth_is fits others =
       marked = λ c low high. let k = tied c in let m = h.marked c low high in let tc = t c in omega arith;
       within = λ c out. let tc = t c in let o = outside c out in let z = h.within c out in omega arith;
       accounted = let tw = total-set worth s.views id me.0 w at in let z = h.accounted in omega arith;
+      one_boss = let tb = total-set boss_count s.views id me.0 w at in let z = h.one_boss in let e = boss_count_same me.0 w boss_is in omega arith;
       fit = all_set (FitsBoss (set s.words i n)) s.views id w fits (λ j u n e. others j u n (h.fit j u e));
     }
 
@@ -52,9 +53,9 @@ set_up words b k inside e c one = dite (ℕ_discrete c b)
 -- win and hold: the mark of a free block is set, and the seat owns the block
 gained : (blocks : ℕ) (s : State (Unit {0}) View) (h : IsReserved blocks s) (id : ℕ) (me : Seated) (w : View) (b k : ℕ) → get_elem? s.views id ≡ some me.0
     → 1 ≤ b → b < blocks → k ≡ 2 ^ (b % 64) → mark s.words b ≡ 0
-    → w.owned ≡ me.0.owned ++ b ∷ [] → worth w ≡ worth me.0 → FitsBoss s.words id w
+    → w.owned ≡ me.0.owned ++ b ∷ [] → worth w ≡ worth me.0 → w.boss ≡ me.0.boss → FitsBoss s.words id w
     → IsReserved blocks (stepped s (b / 64) (bit_or (get_or s.words (b / 64) 0) k) id me.1 w keeps)
-gained blocks s h id me w b k at low high e free owned worth_is fits =
+gained blocks s h id me w b k at low high e free owned worth_is boss_is fits =
     let inside = word_inside blocks s h b high in
     let more : (c : ℕ) → owns c w ≡ owns c me.0 + times c (b ∷ []) = λ c. ap (times c) owned ∙ times-append c me.0.owned (b ∷ []) in
     let up = set_up s.words b k inside e in
@@ -64,19 +65,19 @@ gained blocks s h id me w b k at low high e free owned worth_is fits =
     (let m = set_here s.words b k inside e in let o = more b in let one = times_same b in omega arith))
     (λ (other : c ≢ b). let m = set_elsewhere s.words b k inside e c other in let o = more c in let none = times_other c b other in omega arith))
     (λ c out. let o = more c in let none = times_other c b (λ same. ⊎_elim (λ z. absurd (omega arith)) (λ far. absurd (omega arith)) out) in omega arith)
-    worth_is
+    worth_is boss_is
     (rises s.words (with_set s.words b k) id w up fits)
     (λ j u _ f. rises s.words (with_set s.words b k) j u up f)
 
 -- a step that leaves all marks as they are, and what its seat owns
 looked : (blocks : ℕ) (s : State (Unit {0}) View) (h : IsReserved blocks s) (id : ℕ) (me : Seated) (w : View) (i n : ℕ) → get_elem? s.views id ≡ some me.0
-    → ((c : ℕ) → mark (set s.words i n) c ≡ mark s.words c) → w.owned ≡ me.0.owned → worth w ≡ worth me.0 → FitsBoss s.words id w
+    → ((c : ℕ) → mark (set s.words i n) c ≡ mark s.words c) → w.owned ≡ me.0.owned → worth w ≡ worth me.0 → w.boss ≡ me.0.boss → FitsBoss s.words id w
     → IsReserved blocks (stepped s i n id me.1 w keeps)
-looked blocks s h id me w i n at same owned worth_is fits =
+looked blocks s h id me w i n at same owned worth_is boss_is fits =
     let up : (c : ℕ) → mark s.words c ≡ 1 → mark (set s.words i n) c ≡ 1 = λ c one. same c ∙ one in
     changed blocks s h id me w i n at
     (λ c. let m = same c in let o : owns c w ≡ owns c me.0 = ap (times c) owned in omega arith)
-    (λ c _. ap (times c) owned) worth_is
+    (λ c _. ap (times c) owned) worth_is boss_is
     (rises s.words (set s.words i n) id w up fits) (λ j u _ f. rises s.words (set s.words i n) j u up f)
 
 pub claims : (blocks slots id : ℕ) (me : Seated) (b k : ℕ) → 1 ≤ b → b < blocks → 0 < me.0.budget → k ≡ 2 ^ (b % 64)
@@ -93,7 +94,7 @@ claims blocks slots id me b k low high some_budget e s h _ at _ =
       w,
       keeps,
       tt,
-      gained blocks s h id me w b k at low high e (is ∙ free) refl (omega arith) (mine.0, mine.1, mine.2),
+      gained blocks s h id me w b k at low high e (is ∙ free) refl (omega arith) refl (mine.0, mine.1, mine.2),
       (
         refl,
         λ c st. let same : b ≡ c = set_of_one b c k e st.1 st.0 in
@@ -111,7 +112,7 @@ claims blocks slots id me b k low high some_budget e s h _ at _ =
           (λ c. dite (ℕ_discrete c b)
           (λ (same : c ≡ b). subst (λ (z : ℕ). mark (with_set s.words b k) z ≡ mark s.words z) (sym same) (set_here s.words b k inside e ∙ sym one))
           (λ (other : c ≢ b). set_elsewhere s.words b k inside e c other))
-          refl refl (
+          refl refl refl (
             mine.0,
             mine.1,
             λ boss c seen. dite (ℕ_discrete c b)
@@ -140,7 +141,7 @@ looks blocks slots id me i s h _ at _ =
       w,
       keeps,
       tt,
-      looked blocks s h id me w i x at (same_words s.words i) refl refl (
+      looked blocks s h id me w i x at (same_words s.words i) refl refl refl (
         mine.0,
         mine.1,
         λ boss c seen. dite (ℕ_discrete (times c me.0.saw) 0)
@@ -155,7 +156,7 @@ looks blocks slots id me i s h _ at _ =
       me.0,
       keeps,
       tt,
-      looked blocks s h id me me.0 i x at (same_words s.words i) refl refl (mine.0, mine.1, mine.2),
+      looked blocks s h id me me.0 i x at (same_words s.words i) refl refl refl (mine.0, mine.1, mine.2),
       (refl, (λ full. absurd (room_left full)), λ _. refl),
     ))
 
@@ -180,7 +181,7 @@ frees blocks slots id me b k boss low high owned e s h _ at _ =
           (let z = clear_here s.words b k inside e in let o = less b in let one_b = times_same b in omega arith))
           (λ (other : c ≢ b). let z = clear_elsewhere s.words b k inside e c other in let o = less c in let none_c = times_other c b other in omega arith))
           (λ c out. let o = less c in let none_c = times_other c b (λ same. ⊎_elim (λ z. absurd (omega arith)) (λ far. absurd (omega arith)) out) in omega arith)
-          (omega arith)
+          (omega arith) refl
           (mine.0, (λ not. absurd (true≢false (sym boss ∙ not))), λ _ c none_seen. absurd (omega arith))
           (λ j u n f. (f.0, f.1, λ boss_u. absurd (n (f.0 boss_u ∙ sym (mine.0 boss))))),
       (refl, λ c st. let same : b ≡ c = clear_of_one b c k e st.1 st.0 in subst (λ (y : ℕ). w ≡ after_free y me.0) same refl),
@@ -202,6 +203,7 @@ splits blocks id need v boss fits s h at =
       marked = λ c low high. h.marked c low high ∙ sym (same c);
       within = λ c out. same c ∙ h.within c out;
       accounted = sum worth (omega arith) ∙ h.accounted;
+      one_boss = sum boss_count (omega arith) ∙ h.one_boss;
       fit = λ j u e. ⊎_elim
           (λ (old : get_elem? (set s.views id left) j ≡ some u). all_set (FitsBoss s.words) s.views id left
           (mine.0, (λ not. absurd (true≢false (sym boss ∙ not))), mine.2) (λ i w n q. h.fit i w q) j u old)
@@ -226,6 +228,7 @@ joins blocks id v other w boss not_boss s h at apart there' =
       marked = λ c low high. h.marked c low high ∙ sym (same c);
       within = λ c out. same c ∙ h.within c out;
       accounted = sum worth (let l = length-append v.owned w.owned in omega arith) refl ∙ h.accounted;
+      one_boss = sum boss_count (let no_boss = boss_count_none w not_boss in omega arith) refl ∙ h.one_boss;
       fit = all_set (FitsBoss s.words) (set s.views id both) other spent_view ((λ z. absurd (true≢false (sym z))), (λ _. refl), (λ z. absurd (true≢false (sym z))))
           (λ j u n e. all_set (FitsBoss s.words) s.views id both (mine.0, (λ not. absurd (true≢false (sym boss ∙ not))), mine.2) (λ i q m r. h.fit i q r) j u e);
     }
@@ -248,7 +251,7 @@ holds blocks slots id me b k boss low high not_owned idle e s h _ at _ =
       w,
       keeps,
       tt,
-      gained blocks s h id me w b k at low high e free refl (omega arith) (mine.0, (λ not. absurd (true≢false (sym boss ∙ not))), mine.2),
+      gained blocks s h id me w b k at low high e free refl (omega arith) refl (mine.0, (λ not. absurd (true≢false (sym boss ∙ not))), mine.2),
       (
         refl,
         λ c st. let same : b ≡ c = set_of_one b c k e st.1 st.0 in (some_room, subst (λ (y : ℕ). w ≡ after_hold y me.0) same refl),
@@ -263,6 +266,6 @@ reviews blocks slots id me boss of_table s h _ at _ =
       me.0,
       keeps,
       tt,
-      looked blocks s h id me me.0 0 (get_or s.words 0 0) at (same_words s.words 0) refl refl (mine.0, mine.1, mine.2),
+      looked blocks s h id me me.0 0 (get_or s.words 0 0) at (same_words s.words 0) refl refl refl (mine.0, mine.1, mine.2),
       (refl, reviewed blocks s h id me.0 at boss of_table),
     )

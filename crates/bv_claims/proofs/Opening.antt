@@ -1,13 +1,9 @@
 -- A new table keeps the rule: block 0 alone is marked, and the boss may give out all others.
-use Rattle.std.proofs.Common.{◌≡◌, ◌≢◌, ℕ, zero, suc, ◌+◌, ◌-◌, ◌/◌, ◌%◌, ◌^◌, ◌<◌, ◌≤◌, true, false, true≢false, List, [], ◌∷◌, length, get_or, set, replicate, sym, refl, ap, ◌∙◌, subst, ⊎_elim, arith, length-set}
+use Rattle.std.proofs.Common.{◌≡◌, ◌≢◌, ℕ, zero, suc, ◌/◌, ◌%◌, ◌<◌, ◌≤◌, true≢false, List, [], ◌∷◌, length, get_or, set, replicate, sym, refl, ap, ◌∙◌, subst, arith, length-set}
 use Rattle.std.specs.Int.{bit_at}
 use Rattle.std.proofs.lemmas.Nat.Bits.{bit_at-zero, bit_at-pow_other}
-use mathlib.Core.Logic.{dite}
-use native.Mathlib.Decide.{ℕ_discrete}
-use mathlib.Core.Option.{none, some, some-injective, some-ne-none}
-use lib.ListN.{get_elem?}
-use Rattle.atomic_table.specs.Table.{State, opening}
-use Rattle.bv_claims.specs.declared.rule.View.{View}
+use mathlib.Core.Option.{some-injective, some-ne-none}
+use Rattle.atomic_table.specs.Table.{opening}
 use Rattle.bv_claims.specs.Views.{first_view}
 use Rattle.bv_claims.specs.Rule.{words_for, mark, FitsBoss, AllFit, IsReserved}
 use Rattle.bv_claims.proofs.Marks.{mark_is, mark_here, mark_elsewhere}
@@ -41,5 +37,6 @@ opens blocks words some_block is len = subst (λ (ws : List ℕ). IsReserved blo
       marked = λ b low high. only_first (words_for blocks) b some_word (λ e. absurd (omega arith));
       within = λ b out. refl;
       accounted = omega arith;
+      one_boss = refl;
       fit = fits_first (set (zeros (words_for blocks)) 0 1) blocks;
     })

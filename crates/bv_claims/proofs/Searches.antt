@@ -1,11 +1,11 @@
 -- Searches one after another make one search.
-use Rattle.std.proofs.Common.{◌≡◌, ◌≢◌, ℕ, zero, suc, ◌+◌, ◌-◌, ◌/◌, ◌%◌, ◌^◌, ◌<◌, ◌≤◌, List, [], ◌∷◌, ◌++◌, length, sym, refl, ap, ◌∙◌, subst, arith, length-append, append_assoc}
+use Rattle.std.proofs.Common.{◌≡◌, ◌≢◌, ℕ, ◌+◌, ◌/◌, ◌%◌, ◌^◌, ◌<◌, ◌≤◌, List, [], ◌∷◌, ◌++◌, sym, refl, ap, ◌∙◌, subst, arith, length-append, append_assoc}
 use Rattle.std.proofs.lemmas.Bool.Decides.{nat_tests}
 use mathlib.Core.Logic.{dite}
 use native.Mathlib.Decide.{ℕ_discrete, dec_lt}
 use Rattle.std.proofs.lemmas.List.{append-nil}
 use Rattle.bv_claims.specs.declared.rule.View.{View}
-use Rattle.bv_claims.specs.Blocks.{times, CoverAllFrom1, Rises, IsInCyclicOrder, IsPartOf, blocks_of_word}
+use Rattle.bv_claims.specs.Blocks.{times, CoverAllFrom1, Rises, IsInCyclicOrder, blocks_of_word}
 use Rattle.bv_claims.specs.Views.{after_win, after_loss, after_full_word}
 use Rattle.bv_claims.specs.Search.{HasSearched}
 use Rattle.bv_claims.proofs.Counts.{times-append, times_same}

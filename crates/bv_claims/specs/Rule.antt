@@ -1,12 +1,12 @@
 -- The rule of reservations, which ties the marks of the blocks to what the tokens know. This project's own rule; it holds before and after every step of every thread.
-use Rattle.std.specs.Prelude.{◌≡◌, ℕ, zero, suc, ◌+◌, ◌-◌, ◌/◌, ◌%◌, ◌<◌, ◌≤◌, Bool, true, false, List, [], ◌∷◌, slice_index, length, ◌⊎◌}
+use Rattle.std.specs.Prelude.{◌≡◌, ℕ, ◌+◌, ◌-◌, ◌/◌, ◌%◌, ◌<◌, ◌≤◌, true, false, List, [], ◌∷◌, slice_index, length, ◌⊎◌}
 use Rattle.std.specs.Int.{bit_at}
 use mathlib.Core.Option.{some}
 use lib.ListN.{get_elem?}
 use Rattle.atomic_table.specs.Table.{State}
 use Rattle.bv_claims.specs.declared.rule.View.{View}
 use Rattle.bv_claims.specs.Blocks.{times}
-use Rattle.bv_claims.specs.Views.{worth}
+use Rattle.bv_claims.specs.Views.{worth, boss_count}
 
 -- how many words hold one bit for each block
 abbrev pub words_for : ℕ → ℕ
@@ -48,4 +48,5 @@ pub record IsReserved (blocks : ℕ) (s : State (Unit {0}) View) : Type 0 where
   pub marked : (b : ℕ) → 1 ≤ b → b < blocks → mark s.words b ≡ total (owns b) s.views
   pub within : (b : ℕ) → IsOutside blocks b → total (owns b) s.views ≡ 0
   pub accounted : total worth s.views ≡ blocks - 1
+  pub one_boss : total boss_count s.views ≡ 1
   pub fit : AllFit s.words s.views

@@ -1,11 +1,15 @@
 -- What a token knows of the table, and how each kind of step changes that.
-use Rattle.std.specs.Prelude.{ℕ, ◌+◌, ◌-◌, Bool, true, false, List, [], ◌∷◌, ◌++◌, length}
+use Rattle.std.specs.Prelude.{ℕ, ◌+◌, ◌-◌, true, false, [], ◌∷◌, ◌++◌, length, if◌then◌else◌}
 use Rattle.bv_claims.specs.declared.rule.View.{View}
 use Rattle.bv_claims.specs.Blocks.{without, blocks_of_word}
 
 -- how many blocks the view accounts for
 abbrev pub worth : View → ℕ
 worth v = length v.owned + v.budget + v.room
+
+-- 1 for the boss, and 0 for any other
+abbrev pub boss_count : View → ℕ
+boss_count v = if v.boss then 1 else 0
 
 -- the boss of a new table, who may still give out every block but block 0
 abbrev pub first_view : ℕ → View

@@ -3,7 +3,8 @@
 ghost use Rattle.std.specs.Prelude.{◌≡◌, ◌+◌, ◌<◌, ◌≤◌, [], true, false, length, vec_len};
 ghost use Rattle.std.specs.List.Sorted.{IsNonDecreasing};
 ghost use Rattle.bv_claims.specs.Blocks.{times, HaveSameBlocks};
-ghost use Rattle.bv_claims.specs.Views.{after_grant, grant_view, after_hold, after_free, after_join};
+ghost use Rattle.bv_claims.specs.Views.{grant_view};
+ghost use Rattle.bv_claims.specs.Views.{after_grant, after_hold, after_free, after_join};
 ghost use Rattle.bv_claims.specs.Steps.{IsReviewed};
 ghost use Rattle.bv_claims.specs.Search.{HasCompleted};
 
@@ -11,7 +12,7 @@ use crate::claimed::Claimed;
 use crate::claims::Claims;
 use crate::grant::Grant;
 use crate::rule::{Amount, Free, Grants, Hold, Review, Takes, View};
-use crate::search::bit_of;
+use crate::search::{MARKS, bit_of};
 use crate::tally::Tally;
 use atomic_table::Seat;
 use std::alloc::{AllocError, Global};
@@ -39,8 +40,8 @@ impl Boss {
         self.room
     }
 
-    /// Gives out a budget of `need` blocks, to be claimed from the block `start` on. All memory that
-    /// the claim takes is taken here. On an `Err` the boss is as it was.
+    /// Gives out a budget of `need` blocks, to be claimed from the block `start` on. The claim takes
+    /// no memory, since its list is made here. On an `Err` the boss is as it was.
     pub fn grant(
         &mut self,
         alloc: Global,
@@ -52,7 +53,8 @@ impl Boss {
         requires room { need ≤ boss_room self.old }
         requires start { (1 ≤ start) × (start < block_count claims.now) }
         ensures table { IsBossOf claims.now self.new }
-        ensures ok { IfOk result (λ g. IsGrantOf claims.now g × (grant_need g ≡ need) × (grant_start g ≡ start)
+        ensures ok { IfOk result (λ g. IsGrantOf claims.now g
+            × (grant_need g ≡ need) × (grant_start g ≡ start)
             × (boss_room self.new + need ≡ boss_room self.old)) }
         ensures owned { boss_owned self.new ≡ boss_owned self.old }
         ensures err { OnErr result (self.new ≡ self.old) }
@@ -74,7 +76,8 @@ impl Boss {
     ) -> Result<(), AllocError>
         requires table { IsBossOf claims.now self.old }
         // All blocks from 1 on are the boss's or in its room.
-        requires idle { length (boss_owned self.old) + boss_room self.old + 1 ≡ block_count claims.now }
+        requires idle { length (boss_owned self.old) + boss_room self.old + 1
+            ≡ block_count claims.now }
         requires blocks { (b : ℕ) → 0 < times b blocks.now
             → (1 ≤ b) × (b < block_count claims.now)
             × (times b (boss_owned self.old ++ blocks.now) ≡ 1) }
@@ -92,7 +95,8 @@ impl Boss {
     // One block that nobody owns.
     fn hold_one(&mut self, claims: &Claims, block: u64)
         requires table { IsBossOf claims.now self.old }
-        requires idle { length (boss_owned self.old) + boss_room self.old + 1 ≡ block_count claims.now }
+        requires idle { length (boss_owned self.old) + boss_room self.old + 1
+            ≡ block_count claims.now }
         requires block { (1 ≤ block) × (block < block_count claims.now) }
         requires nobodys { times block (boss_owned self.old) ≡ 0 }
         ensures table { IsBossOf claims.now self.new }
@@ -153,7 +157,8 @@ fn granted<N: Amount>(claims: &Claims, boss: &mut Seat<(), View>, need: u64) -> 
     requires need { N.need ≡ need }
     requires table { boss.old.table_id ≡ claims.now.table.shared.table_id }
     requires boss { (boss.old.me.0.boss ≡ true) × (need ≤ boss.old.me.0.room) }
-    ensures table { (boss.new.table_id ≡ boss.old.table_id) × (result.table_id ≡ boss.old.table_id) }
+    ensures table { (boss.new.table_id ≡ boss.old.table_id)
+        × (result.table_id ≡ boss.old.table_id) }
     ensures boss { boss.new.me ≡ (after_grant need boss.old.me.0, boss.old.me.1) }
     ensures grant { result.me ≡ (grant_view need, []) }
 {
@@ -171,7 +176,7 @@ fn hold_mark(claims: &Claims, boss: &mut Seat<(), View>, block: u64)
     ensures held { boss.new.me ≡ (after_hold block boss.old.me.0, boss.old.me.1) }
     ensures room { 0 < boss.old.me.0.room }
 {
-    let word = (block / 64) as usize;
+    let word = (block / MARKS) as usize;
     let _found = claims
         .table
         .shared
@@ -187,7 +192,7 @@ fn free_mark(claims: &Claims, boss: &mut Seat<(), View>, block: u64)
     ensures table { boss.new.table_id ≡ boss.old.table_id }
     ensures freed { boss.new.me ≡ (after_free block boss.old.me.0, boss.old.me.1) }
 {
-    let word = (block / 64) as usize;
+    let word = (block / MARKS) as usize;
     let _found = claims
         .table
         .shared

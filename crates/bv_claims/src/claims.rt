@@ -61,8 +61,10 @@ impl Claims {
         requires table { IsGrantOf self.now grant }
         ensures table { IsClaimedOf self.now result }
         ensures need { length (claimed_gained result) + claimed_left result ≡ grant_need grant }
-        ensures order { IsInCyclicOrder (grant_start grant) (block_count self.now) (claimed_gained result) }
-        ensures range { (b : ℕ) → 0 < times b (claimed_gained result) → (1 ≤ b) × (b < block_count self.now) }
+        ensures order { IsInCyclicOrder (grant_start grant) (block_count self.now)
+            (claimed_gained result) }
+        ensures range { (b : ℕ) → 0 < times b (claimed_gained result)
+            → (1 ≤ b) × (b < block_count self.now) }
         ensures distinct { HasEachOnce (claimed_gained result) }
         // Where a budget is left, each block from 1 on was gained, or was seen taken at its step.
         ensures left { 0 < claimed_left result

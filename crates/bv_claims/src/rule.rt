@@ -77,7 +77,8 @@ impl Play<(), View> for Review {
     ghost then = { ReviewTells };
 }
 
-/// How many blocks a grant is for. A step sees no number of its caller's, so the number is a ghost member of a type that the caller picks.
+/// How many blocks a grant is for. A step sees no number of its caller's, so this one is a ghost
+/// member of a type that the caller picks.
 pub trait Amount {
     ghost use Rattle.std.specs.Prelude.{ℕ};
 

@@ -9,7 +9,7 @@ use crate::tally::Tally;
 use atomic_table::Seat;
 
 /// How many marks a word has.
-const MARKS: u64 = 64;
+pub const MARKS: u64 = 64;
 
 /// The number whose one bit is the mark of the block in its word.
 pub fn bit_of(block: u64) -> u64
@@ -19,9 +19,10 @@ pub fn bit_of(block: u64) -> u64
 }
 
 impl Claims {
-    // One try of one block: a single `fetch_or` of its bit. A block that was taken isn't tried again.
+    // One try of one block: a single `fetch_or` of its bit.
     fn try_block(&self, seat: &mut Seat<(), View>, tally: &mut Tally, block: u64)
-        requires table { (seat.old.table_id ≡ self.now.table.shared.table_id) × (seat.old.me.1 ≡ []) }
+        requires table { (seat.old.table_id ≡ self.now.table.shared.table_id)
+            × (seat.old.me.1 ≡ []) }
         requires block { (1 ≤ block) × (block < self.now.blocks) }
         requires budget { (0 < tally.old.left) × (tally.old.left ≡ seat.old.me.0.budget) }
         ensures table { (seat.new.table_id ≡ seat.old.table_id) × (seat.new.me.1 ≡ []) }
@@ -29,11 +30,9 @@ impl Claims {
         ensures searched { HasSearched block (block + 1)
             seat.old.me.0 tally.old.gained.items seat.new.me.0 tally.new.gained.items }
     {
+        let words = &self.table.shared;
         let word = (block / MARKS) as usize;
-        let found = self
-            .table
-            .shared
-            .fetch_or::<Claim>(seat, word, bit_of(block));
+        let found = words.fetch_or::<Claim>(seat, word, bit_of(block));
         if found >> (block % MARKS) & 1 == 0 {
             tally.add(block);
         }
@@ -41,7 +40,8 @@ impl Claims {
 
     // Blocks of one word. A word that is full costs one load.
     fn claim_in_word(&self, seat: &mut Seat<(), View>, tally: &mut Tally, from: u64, to: u64)
-        requires table { (seat.old.table_id ≡ self.now.table.shared.table_id) × (seat.old.me.1 ≡ []) }
+        requires table { (seat.old.table_id ≡ self.now.table.shared.table_id)
+            × (seat.old.me.1 ≡ []) }
         requires blocks { (1 ≤ from) × (from < to) × (to ≤ self.now.blocks) }
         requires one_word { (b : ℕ) → from ≤ b → b < to → b / 64 ≡ from / 64 }
         requires tied { tally.old.left ≡ seat.old.me.0.budget }
@@ -63,7 +63,8 @@ impl Claims {
 
     // Whether the word of these blocks is full. The seat then has seen them all taken.
     fn look_full(&self, seat: &mut Seat<(), View>, from: u64, to: u64) -> bool
-        requires table { (seat.old.table_id ≡ self.now.table.shared.table_id) × (seat.old.me.1 ≡ []) }
+        requires table { (seat.old.table_id ≡ self.now.table.shared.table_id)
+            × (seat.old.me.1 ≡ []) }
         requires blocks { (from < to) × (to ≤ self.now.blocks) }
         requires one_word { (b : ℕ) → from ≤ b → b < to → b / 64 ≡ from / 64 }
         ensures table { (seat.new.table_id ≡ seat.old.table_id) × (seat.new.me.1 ≡ []) }
@@ -80,7 +81,8 @@ impl Claims {
 
     /// Tries the blocks from `from` on and below `to`, in rising order, until the budget is spent.
     pub fn claim_range(&self, seat: &mut Seat<(), View>, tally: &mut Tally, from: u64, to: u64)
-        requires table { (seat.old.table_id ≡ self.now.table.shared.table_id) × (seat.old.me.1 ≡ []) }
+        requires table { (seat.old.table_id ≡ self.now.table.shared.table_id)
+            × (seat.old.me.1 ≡ []) }
         requires blocks { (1 ≤ from) × (from ≤ to) × (to ≤ self.now.blocks) }
         requires tied { tally.old.left ≡ seat.old.me.0.budget }
         ensures table { (seat.new.table_id ≡ seat.old.table_id) × (seat.new.me.1 ≡ []) }

@@ -1,7 +1,7 @@
-use Rattle.std.proofs.Common.{◌≡◌, ℕ, List, ap, sym, subst, ◌∙◌, arith}
+use Rattle.std.proofs.Common.{◌≡◌, ℕ, ap, sym, subst}
 use Rattle.bv_claims.specs.declared.rule.View.{View}
 use Rattle.bv_claims.specs.Views.{after_join}
-use Rattle.bv_claims.specs.Search.{HasSearched, HasCompleted}
+use Rattle.bv_claims.specs.Search.{HasSearched}
 use Rattle.bv_claims.proofs.Bosses.{completed}
 use Rattle.bv_claims.proofs.boss.complete.Goals as goal
 

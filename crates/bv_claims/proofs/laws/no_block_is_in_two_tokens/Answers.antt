@@ -1,9 +1,9 @@
-use Rattle.std.proofs.Common.{◌≡◌, ◌≢◌, ◌≤◌, ◌+◌, ◌<◌, ℕ, arith, inl, inr}
+use Rattle.std.proofs.Common.{◌≡◌, ◌≢◌, ◌≤◌, ◌+◌, arith, inl, inr}
 use mathlib.Core.Logic.{dite}
 use native.Mathlib.Decide.{ℕ_discrete, dec_lt}
 use Rattle.bv_claims.specs.Blocks.{times}
 use Rattle.bv_claims.specs.Rule.{owns, total}
-use Rattle.bv_claims.proofs.Counts.{total-two, le-total}
+use Rattle.bv_claims.proofs.Counts.{total-two}
 use Rattle.bv_claims.proofs.Marks.{mark-le-1}
 use Rattle.bv_claims.proofs.laws.no_block_is_in_two_tokens.Goals as goal
 

@@ -1,4 +1,4 @@
-use Rattle.std.proofs.Common.{◌≡◌, ◌<◌, ◌≤◌, ◌+◌, ℕ, ap, sym, ◌∙◌, arith, get_or, take}
+use Rattle.std.proofs.Common.{◌≡◌, ◌<◌, ap, arith, get_or, take}
 use Rattle.std.proofs.lemmas.List.{take_all}
 use Rattle.bv_claims.specs.Blocks.{times}
 use Rattle.bv_claims.proofs.Counts.{times-append, times-without, times_same}

@@ -1,5 +1,4 @@
-use Rattle.std.proofs.Common.{◌≡◌, ◌<◌, ◌≤◌, ◌+◌, ℕ, List, ap, sym, subst, ◌∙◌, arith, length}
-use Rattle.bv_claims.specs.declared.rule.View.{View}
+use Rattle.std.proofs.Common.{◌≡◌, ◌≤◌, ℕ, ap, ◌∙◌, arith, length}
 use Rattle.bv_claims.specs.Blocks.{times, without}
 use Rattle.bv_claims.proofs.Counts.{times-without, length-without}
 use Rattle.bv_claims.proofs.boss.Boss.free_one.Goals as goal

@@ -1,4 +1,4 @@
-use Rattle.std.proofs.Common.{◌≡◌, ◌<◌, ◌≤◌, ◌+◌, ℕ, ap, ◌∙◌, arith, get_or, take}
+use Rattle.std.proofs.Common.{ap, ◌∙◌, arith, get_or, take}
 use Rattle.bv_claims.specs.Blocks.{times}
 use Rattle.bv_claims.proofs.Counts.{times-append, times_same}
 use Rattle.bv_claims.proofs.Bosses.{times-take}

@@ -1,5 +1,5 @@
-use Rattle.std.proofs.Common.{◌≡◌, ◌<◌, ◌+◌, ◌≤◌, ◌∙◌, sym, subst, arith, List, ℕ}
-use Rattle.bv_claims.specs.Blocks.{times, CoverAllFrom1}
+use Rattle.std.proofs.Common.{◌∙◌, sym, subst, arith, List, ℕ}
+use Rattle.bv_claims.specs.Blocks.{CoverAllFrom1}
 use Rattle.bv_claims.proofs.Searches.{cyclic_range, cyclic_once, searched_round, round_order, listed_is}
 use Rattle.bv_claims.proofs.claims.Claims.claim.Goals as goal
 

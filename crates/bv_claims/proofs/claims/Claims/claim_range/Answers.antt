@@ -1,5 +1,4 @@
-use Rattle.std.proofs.Common.{◌≡◌, ◌≤◌, ◌∙◌, subst, sym, arith}
-use Rattle.bv_claims.specs.Search.{HasSearched}
+use Rattle.std.proofs.Common.{◌∙◌, arith}
 use Rattle.bv_claims.proofs.Searches.{searched_none, searched_both, searched_spent}
 use Rattle.bv_claims.proofs.claims.Claims.claim_range.Goals as goal
 

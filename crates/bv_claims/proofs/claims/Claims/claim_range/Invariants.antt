@@ -1,4 +1,4 @@
-use Rattle.std.proofs.Common.{◌≡◌, ◌-◌, ◌≤◌, [], ◌<◌, ◌⊎◌}
+use Rattle.std.proofs.Common.{◌≡◌, ◌-◌, ◌≤◌, []}
 use Rattle.bv_claims.specs.Search.{HasSearched}
 use Rattle.bv_claims.proofs.claims.Claims.claim_range.Given as goal
 

@@ -1,8 +1,7 @@
-use Rattle.std.proofs.Common.{◌≡◌, ℕ, ◌∙◌, sym, ap, subst, arith, List, true}
+use Rattle.std.proofs.Common.{◌≡◌, sym, ap, subst, arith}
 use Rattle.std.proofs.lemmas.Bool.Decides.{nat_tests}
 use Rattle.bv_claims.specs.Search.{HasSearched}
 use Rattle.bv_claims.specs.declared.rule.View.{View}
-use Rattle.bv_claims.specs.Views.{after_full_word}
 use Rattle.bv_claims.proofs.Moves.{looks}
 use Rattle.bv_claims.proofs.Searches.{searched_full}
 use Rattle.bv_claims.proofs.claims.Claims.look_full.Goals as goal
