@@ -1,4 +1,5 @@
--- The marks of blocks as bits of words: a mark that is set or cleared here, and all others elsewhere. Nothing else knows of words.
+-- The marks of blocks as bits of words: a mark that is set or cleared here, and the others
+-- elsewhere. Nothing else knows of words.
 use Rattle.std.proofs.Common.{◌≡◌, ◌≢◌, ℕ, zero, suc, ◌+◌, ◌-◌, ◌*◌, ◌/◌, ◌%◌, ◌^◌, ◌<◌, ◌≤◌, List, length, get_or, set, sym, refl, ap, ◌∙◌, subst, arith, min, max, get_or-set_same, get_or-set_other}
 use Rattle.std.specs.Int.{bit_at, bit_not}
 use Rattle.std.specs.Int.Bits.{bit_or, bit_and}

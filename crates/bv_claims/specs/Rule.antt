@@ -1,4 +1,5 @@
--- The rule of reservations, which ties the marks of the blocks to what the tokens know. This project's own rule; it holds before and after every step of every thread.
+-- The rule of reservations, which ties the marks of the blocks to what the tokens know.
+-- It is this project's own, and holds before and after every step of every thread.
 use Rattle.std.specs.Prelude.{◌≡◌, ℕ, ◌+◌, ◌-◌, ◌/◌, ◌%◌, ◌<◌, ◌≤◌, true, false, List, [], ◌∷◌, slice_index, length, ◌⊎◌}
 use Rattle.std.specs.Int.{bit_at}
 use mathlib.Core.Option.{some}
@@ -29,7 +30,8 @@ owns b v = times b v.owned
 abbrev pub IsOutside : ℕ → ℕ → Type 0
 IsOutside blocks b = (b ≡ 0) ⊎ (blocks ≤ b)
 
--- Only the boss, which is seat 0, has room, and each block that the boss saw taken is still taken: no one else frees.
+-- Only the boss, which is seat 0, has room. Each block that the boss saw taken is still taken,
+-- since no one else frees.
 abbrev pub FitsBoss : List ℕ → ℕ → View → Type 0
 FitsBoss words id v =
     (v.boss ≡ true → id ≡ 0)
@@ -40,7 +42,10 @@ FitsBoss words id v =
 abbrev pub AllFit : List ℕ → List View → Type 0
 AllFit words views = (id : ℕ) (v : View) → get_elem? views id ≡ some v → FitsBoss words id v
 
--- The rule. A mark is 0 or 1, as a bit is, so `marked` says besides that a block stands in one owned list at most, and there once.
+-- The rule. A mark is 0 or 1, as a bit is. So by `marked` a block's mark is 1 exactly where the
+-- block stands in one owned list, and it stands there once and in no other. Owned lists have only
+-- blocks from 1 on (`within`), and the bits past the last block stay 0 (`past_end`). What is
+-- owned, may be claimed or may be given out is all there is (`accounted`).
 pub record IsReserved (blocks : ℕ) (s : State (Unit {0}) View) : Type 0 where
   pub counted : (2 ≤ blocks) × (length s.words ≡ words_for blocks)
   pub zero_taken : mark s.words 0 ≡ 1

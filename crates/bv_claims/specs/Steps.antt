@@ -40,12 +40,14 @@ HoldTells st m found m' = (m'.1 ≡ m.1) × ((b : ℕ) → IsSetOf st b → (0 <
 abbrev pub FreeTells : Step (Unit {0}) → Seated → ℕ → Seated → Type 0
 FreeTells st m found m' = (m'.1 ≡ m.1) × ((b : ℕ) → IsClearOf st b → m'.0 ≡ after_free b m.0)
 
--- A look that changes no view. The boss learns what the rule says of its own view: it owns no block twice and none outside the table, it accounts for no more than there is, and once it owns or saw each block, it has no budget left.
+-- What the rule says of the boss's own view: it owns no block twice and none outside the table,
+-- it accounts for no more than there is, and once it owns or saw each block, it has no budget left.
 pub record IsReviewed (v : View) : Type 0 where
   pub once : HasEachOnce v.owned
   pub within : (b : ℕ) → IsOutside v.blocks b → times b v.owned ≡ 0
   pub accounted : worth v ≤ v.blocks - 1
   pub complete : CoverAllFrom1 v.blocks v.owned v.saw → v.budget ≡ 0
 
+-- a look of the boss that changes no view
 abbrev pub ReviewTells : Step (Unit {0}) → Seated → ℕ → Seated → Type 0
 ReviewTells st m found m' = (m' ≡ m) × IsReviewed m.0

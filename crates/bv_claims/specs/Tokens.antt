@@ -38,7 +38,8 @@ claimed_saw c = c.seat.me.0.saw
 abbrev pub claimed_left : Claimed → ℕ
 claimed_left c = c.tally.left
 
--- The boss is of this table. It owns blocks from 1 on, each once, and with what it may still give out they are no more than there are.
+-- The boss is of this table. It owns blocks from 1 on, each once, and with what it may still give
+-- out they are no more than there are.
 pub record IsBossOf (c : Claims) (b : Boss) : Type 0 where
   pub table : b.seat.table_id ≡ c.table.shared.table_id
   pub blocks : b.seat.me.0.blocks ≡ c.blocks
