@@ -1,0 +1,14 @@
+//! Fields of bytes, and CRC-32.
+#![tactic(auto)]
+
+mod crc;
+mod field;
+mod fields;
+#[cfg(test)]
+mod tests;
+
+pub use crc::{crc_more, crc32};
+pub use field::Field;
+
+/// A block of a device: 8,192 bytes.
+pub type Block = [u8; 8192];
