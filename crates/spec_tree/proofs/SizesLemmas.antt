@@ -1,5 +1,5 @@
 -- The numbers of digests of the levels: they fall to one, and `levels_of` is the place where they do.
-use Rattle.std.proofs.Common.{inl, inr, ◌≡◌, ℕ, zero, suc, ◌+◌, ◌*◌, ◌^◌, ◌<◌, ◌≤◌, Bool, true, false, List, [], ◌∷◌, ◌++◌, refl, sym, ap, subst, ◌∙◌, add-zero, zero-add, add-suc, add_comm, arith}
+use Rattle.std.proofs.Common.{inl, inr, add-one, ◌≡◌, ℕ, zero, suc, ◌+◌, ◌*◌, ◌^◌, ◌<◌, ◌≤◌, Bool, true, false, List, [], ◌∷◌, ◌++◌, refl, sym, ap, subst, ◌∙◌, add-zero, zero-add, add-one, add-suc, add_comm, arith}
 use Rattle.std.specs.Prelude.{max, if◌then◌else◌, ◌==◌}
 use Rattle.std.specs.List.{range_with_len, sum_by}
 use Rattle.std.specs.Int.{div_ceil}
@@ -125,21 +125,32 @@ digests_at-below size k h =
     let e = ending-zero size in
     subst (λ (j : ℕ). 1 < digests_at size j) (omega arith) (e.below k (omega (arith, h, levels_of-ending size e)))
 
--- so many bytes as a u64 counts have 2 ^ 51 blocks at most, and so 7 levels
-pub levels_of-few : (size : ℕ) → size < 2 ^ 64 → levels_of size ≤ 7
-levels_of-few size h =
-    let d0 : digests_at size 0 ≤ 2 ^ 51 = omega (arith, digests_at-zero size) in
-    let d1 : digests_at size 1 ≤ 2 ^ 43 = omega (arith, digests_at-more size 0) in
+-- so many bytes as a u64 counts have at most 2 ^ 51 blocks
+pub digests_at-0-few : (size : ℕ) → size < 2 ^ 64 → digests_at size 0 ≤ 2 ^ 51
+digests_at-0-few size h = omega (arith, h, digests_at-zero size)
+
+-- and one digest at level 7
+pub digests_at-7-few : (size : ℕ) → size < 2 ^ 64 → digests_at size 7 ≤ 1
+digests_at-7-few size h =
+    let d0 = digests_at-0-few size h in
+    let d1 : digests_at size 1 ≤ 2 ^ 43 = omega (arith, d0, digests_at-more size 0) in
     let d2 : digests_at size 2 ≤ 2 ^ 35 = omega (arith, digests_at-more size 1) in
     let d3 : digests_at size 3 ≤ 2 ^ 27 = omega (arith, digests_at-more size 2) in
     let d4 : digests_at size 4 ≤ 2 ^ 19 = omega (arith, digests_at-more size 3) in
     let d5 : digests_at size 5 ≤ 2 ^ 11 = omega (arith, digests_at-more size 4) in
     let d6 : digests_at size 6 ≤ 2 ^ 3 = omega (arith, digests_at-more size 5) in
-    let d7 : digests_at size 7 ≤ 1 = omega (arith, digests_at-more size 6) in
-    elim (cases_lt 7 (levels_of size)) [
-      | inl over ↦ absurd (omega (arith, d7, digests_at-below size 7 over))
+    omega (arith, digests_at-more size 6)
+
+-- a level that every level below has more digests than one is at most level 7
+pub levels-few : (size level : ℕ) → size < 2 ^ 64 → ((k : ℕ) → k < level → 1 < digests_at size k) → level ≤ 7
+levels-few size level h below =
+    elim (cases_lt 7 level) [
+      | inl over ↦ absurd (omega (arith, digests_at-7-few size h, below 7 over))
       | inr fine ↦ fine
     ]
+
+pub levels_of-few : (size : ℕ) → size < 2 ^ 64 → levels_of size ≤ 7
+levels_of-few size h = levels-few size (levels_of size) h (digests_at-below size)
 
 -- ---- sums
 
@@ -178,7 +189,7 @@ unfolding need_of
 need-le size = omega (arith, compact-le size)
 
 -- a tree has fewer blocks than its data, as far as the levels have more than one digest
-sum_levels-small : (size n : ℕ) → ((k : ℕ) → k < n → 1 < digests_at size k)
+pub sum_levels-small : (size n : ℕ) → ((k : ℕ) → k < n → 1 < digests_at size k)
     → sum_by (digests_at size) (range_with_len 1 n) + digests_at size n ≤ digests_at size 0
 sum_levels-small size zero below = omega arith
 sum_levels-small size (suc n) below =
@@ -193,6 +204,24 @@ sum_levels-small size (suc n) below =
       here,
       same,
       sum_levels-small size n (λ k h. below k (omega (arith, h))),
+    )
+
+-- the digests that levels of more than one hold, and twice those of the next, are few
+pub sum_levels-held : (size n : ℕ) → ((k : ℕ) → k < n → 1 < digests_at size k)
+    → sum_by (digests_at size) (range_with_len 0 n) + 2 * digests_at size n ≤ 2 * digests_at size 0
+sum_levels-held size zero below = omega arith
+sum_levels-held size (suc n) below =
+    let next : digests_at size (suc n) ≡ div_ceil (digests_at size n) 256 =
+    ap (digests_at size) (sym (add-one n)) ∙ digests_at-more size n in
+    let here : 1 < digests_at size n = below n (omega arith) in
+    let same : digests_at size (0 + n) ≡ digests_at size n = ap (digests_at size) (zero-add n) in
+    omega (
+      arith,
+      sum_levels-more (digests_at size) 0 n,
+      next,
+      here,
+      same,
+      sum_levels-held size n (λ k h. below k (omega (arith, h))),
     )
 
 -- what is above both is above either

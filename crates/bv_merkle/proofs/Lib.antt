@@ -1,0 +1,9 @@
+pub mod BuilderLemmas
+pub mod CallerLemmas
+pub mod CloseLemmas
+pub mod HashingLemmas
+pub mod KeptLemmas
+pub mod LevelsLemmas
+pub mod SizesLemmas
+pub mod StandsLemmas
+pub mod WindowLemmas
