@@ -1,0 +1,41 @@
+//! A reader of the standard library as a source.
+ghost use Rattle.std.specs.Prelude.{◌≡◌};
+
+use bv_io::{Failed, Source};
+use std::io::{ErrorKind, Read};
+
+/// A source over any reader. It knows of the bytes what the reader tells: of standard input
+/// nothing.
+#[derive(Drop)]
+pub struct ReaderSource<R> {
+    reader: R,
+    faults: u64,
+}
+
+impl<R: Read> ReaderSource<R> {
+    pub fn new(reader: R) -> ReaderSource<R>
+        ensures reader { result.reader ≡ reader }
+        ensures faults { result.faults ≡ 0 }
+    {
+        ReaderSource { reader, faults: 0 }
+    }
+}
+
+impl<R: Read> Source for ReaderSource<R> {
+    ghost left = { λ s. R.remaining s.reader };
+
+    ghost faults = { λ s. s.faults };
+
+    fn take(&mut self, into: &mut [u8]) -> Result<usize, Failed> {
+        for _ in 0..u64::MAX {
+            match self.reader.read(into) {
+                Ok(count) => return Ok(count),
+                // A signal came first, and nothing was read.
+                Err(error) if error.kind() == ErrorKind::Interrupted => {}
+                Err(_) => break,
+            }
+        }
+        self.faults = self.faults.saturating_add(1);
+        Err(Failed)
+    }
+}

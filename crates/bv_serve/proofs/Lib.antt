@@ -1,0 +1,4 @@
+-- Lemmas on what a run leaves of its streams.
+pub mod RootLemmas
+pub mod ServesLemmas
+pub mod WordsLemmas

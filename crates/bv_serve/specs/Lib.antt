@@ -1,0 +1,6 @@
+-- What the program prints and does, for each form of its words.
+pub mod Words
+pub mod Lines
+pub mod Runs
+pub mod Root
+pub mod Serves

@@ -1,0 +1,143 @@
+//! Runs of the top call over streams in memory. The roots were computed by the definition with
+//! another SHA-256; the bytes of an input count from 0 to 250 and on.
+use crate::{Status, run};
+use bv_io::{MemSink, MemSource, Source, Trickle};
+use std::alloc::{AllocError, Global};
+use std::test::Fail;
+
+const USAGE: &str =
+    "usage: root | format B N J | format2 B N J | list | check | recover | upgrade | script | fresh B N J | fresh2 B N J | demo N | collect | deliver\n";
+
+fn counted(alloc: Global, len: usize) -> Result<Vec<u8>, AllocError> {
+    (0..len).map(|i| (i % 251) as u8).collect(alloc)
+}
+
+fn words(alloc: Global, all: &[&str]) -> Result<Vec<String>, AllocError> {
+    let mut words = Vec::new(alloc);
+    for word in all {
+        words.push(String::from_str(alloc, word)?)?;
+    }
+    Ok(words)
+}
+
+#[test]
+fn root_prints_the_root_of_its_input(rt: HostRuntime) -> Result<(), Fail> {
+    let alloc = rt.alloc();
+    let rows = [
+        (
+            0,
+            "15ec7bf0b50732b49f8228e07d24365338f9e3ab994b00af08e5a3bffe55fd8b\n",
+        ),
+        (
+            1,
+            "0c9eefda90e39f8de79af6fe069eda5d43205f7d3e626d5bd80edf7463f3f4a5\n",
+        ),
+        (
+            8192,
+            "9720eec722ad596013088cceb7d863d0a94ed6a693f1b82e3a4af84486543c57\n",
+        ),
+        (
+            8193,
+            "303101cd9361bbcc85ea69dbdb8ce28ecfbbb82b66784176ab293b702d499fcb\n",
+        ),
+        (
+            65_536,
+            "8a50920bcc28572b16484c1bae5ecd1d0e07d08ef0341cfc4a678ba0f5f98780\n",
+        ),
+        (
+            65_537,
+            "9c8bb60f770b8c39a20069e758c40e97d26e79f1fef4cd0042d752e0e3c48c18\n",
+        ),
+        (
+            2_097_153,
+            "05ef40c28bf6e94ece3f6a999412b3035884edd43860f4021d125d9d34db8e5e\n",
+        ),
+    ];
+    let words = words(alloc, &["root"])?;
+    for (len, want) in rows {
+        let mut input = MemSource::new(counted(alloc, len)?, Vec::new(alloc));
+        let mut out = MemSink::new(Vec::new(alloc), alloc);
+        let status = run(alloc, &words, &mut input, &mut out);
+        assert_eq!(rt; status, Status::Ok, "{len} bytes");
+        assert_eq!(rt; out.bytes(), want.as_bytes(), "{len} bytes");
+    }
+    Ok(())
+}
+
+#[test]
+fn words_of_no_written_form_are_refused_and_nothing_is_read(rt: HostRuntime) -> Result<(), Fail> {
+    let alloc = rt.alloc();
+    let no_words: [&str; 0] = [];
+    for row in [
+        words(alloc, &no_words)?,
+        words(alloc, &["root", "x"])?,
+        words(alloc, &["Root"])?,
+        words(alloc, &["root "])?,
+        words(alloc, &["format", "64"])?,
+        words(alloc, &["list"])?,
+    ] {
+        let mut input = MemSource::new(counted(alloc, 3)?, Vec::new(alloc));
+        let mut out = MemSink::new(Vec::new(alloc), alloc);
+        assert_eq!(rt; run(alloc, &row, &mut input, &mut out), Status::Usage);
+        assert_eq!(rt; out.bytes(), USAGE.as_bytes());
+        assert_eq!(rt; input.take(&mut [0; 9]), Ok(3));
+    }
+    Ok(())
+}
+
+#[test]
+fn each_fault_has_its_status_and_line(rt: HostRuntime) -> Result<(), Fail> {
+    let alloc = rt.alloc();
+    let root = "303101cd9361bbcc85ea69dbdb8ce28ecfbbb82b66784176ab293b702d499fcb\n";
+    // The words, the length of the input, the calls of source and sink that fail (0: none), the
+    // status, and what the sink was given. Both move a byte a call.
+    let rows = [
+        ("root", 8193, 1, 0, Status::Source, "source: fault\n"),
+        ("root", 8193, 2, 0, Status::Source, "source: fault\n"),
+        ("root", 8193, 8193, 0, Status::Source, "source: fault\n"),
+        ("root", 8193, 8194, 0, Status::Source, "source: fault\n"),
+        ("root", 8193, 8195, 0, Status::Ok, root),
+        ("root", 8193, 0, 1, Status::Sink, ""),
+        ("root", 8193, 0, 10, Status::Sink, "303101cd9"),
+        ("root", 8193, 0, 65, Status::Sink, &root[..64]),
+        ("root", 8193, 0, 66, Status::Ok, root),
+        ("root", 8193, 1, 8, Status::Source, "source:"),
+        ("roots", 8193, 0, 7, Status::Usage, "usage:"),
+    ];
+    for (word, len, source_fails, sink_fails, want, line) in rows {
+        let words = words(alloc, &[word])?;
+        let mut input = Trickle {
+            inner: MemSource::new(counted(alloc, len)?, vec![in alloc; source_fails]?),
+        };
+        let mut out = Trickle {
+            inner: MemSink::new(vec![in alloc; sink_fails]?, alloc),
+        };
+        let status = run(alloc, &words, &mut input, &mut out);
+        assert_eq!(rt; status, want, "{word}, {source_fails}, {sink_fails}");
+        assert_eq!(rt;
+            out.inner.bytes(),
+            line.as_bytes(),
+            "{word}, {source_fails}, {sink_fails}"
+        );
+    }
+    Ok(())
+}
+
+#[test]
+fn one_byte_past_the_limit_is_too_long(rt: HostRuntime) -> Result<(), Fail> {
+    let alloc = rt.alloc();
+    let words = words(alloc, &["root"])?;
+    let mut input = MemSource::new(vec![in alloc; 0; 67_108_866]?, Vec::new(alloc));
+    let mut out = MemSink::new(Vec::new(alloc), alloc);
+    assert_eq!(rt; run(alloc, &words, &mut input, &mut out), Status::Input);
+    assert_eq!(rt; out.bytes(), "input: too long\n".as_bytes());
+    assert_eq!(rt; input.take(&mut [0; 9]), Ok(1));
+    Ok(())
+}
+
+#[test]
+fn the_status_is_the_number_of_the_table(rt: HostRuntime) {
+    for (status, code) in [(Status::Ok, 0), (Status::Sink, 4), (Status::Refused, 9)] {
+        assert_eq!(rt; status.code(), code);
+    }
+}
