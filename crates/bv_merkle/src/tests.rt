@@ -1,0 +1,68 @@
+//! What no clause says: digests and roots known outside, and a tree built with ample memory.
+
+ghost use Rattle.std.specs.Prelude.{◌<◌};
+
+use crate::{Builder, Digest, Tree, root};
+use std::alloc::{AllocError, Global};
+use std::test::Fail;
+
+// The first eight bytes of a digest, as its hexadecimal text has them.
+fn head(digest: &Digest) -> u64 {
+    u64::from_be_bytes([
+        digest.0[0],
+        digest.0[1],
+        digest.0[2],
+        digest.0[3],
+        digest.0[4],
+        digest.0[5],
+        digest.0[6],
+        digest.0[7],
+    ])
+}
+
+// The tree of bytes that are pushed in pieces of `step` bytes.
+fn tree_by(alloc: Global, bytes: &[u8], step: usize) -> Result<Tree, AllocError>
+    requires { 0 < step }
+{
+    let mut builder = Builder::new(alloc, bytes.len() as u64)?;
+    let mut rest = bytes;
+    while !rest.is_empty() {
+        let (piece, more) = rest.split_at(rest.len().min(step));
+        builder.push(alloc, piece)?;
+        rest = more;
+    }
+    builder.finish(alloc)
+}
+
+// Whether the root of so many bytes begins so, by `root` and by a builder fed in pieces.
+fn has_root(alloc: Global, byte: u8, size: usize, expected: u64) -> Result<bool, AllocError>
+    requires { size < 2097154 }
+{
+    let bytes = vec![in alloc; byte; size]?;
+    let one = root(&bytes);
+    let tree = tree_by(alloc, &bytes, 4095)?;
+    Ok(head(&one) == expected && head(&tree.root) == expected)
+}
+
+// By python's hashlib, from the definition; 8,192 bytes of 255 are a vector of Fuchsia's own.
+#[test]
+fn roots_are_those_known_outside(rt: HostRuntime) -> Result<(), Fail> {
+    assert!(rt; has_root(rt.alloc(), 0, 0, 0x15ec7bf0b50732b4)?, "no bytes");
+    assert!(rt;
+        has_root(rt.alloc(), 255, 8192, 0x68d131bc271f9c19)?,
+        "one block"
+    );
+    assert!(rt;
+        has_root(rt.alloc(), 0x41, 8193, 0xb1699626e878b710)?,
+        "two blocks"
+    );
+    assert!(rt;
+        has_root(rt.alloc(), 0x41, 65537, 0xcad84921a1e67f0c)?,
+        "two windows"
+    );
+    assert!(rt;
+        has_root(rt.alloc(), 0x41, 2097153, 0x0c61de8c1e0d935d)?,
+        "two levels"
+    );
+    Ok(())
+}
