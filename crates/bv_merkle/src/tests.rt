@@ -2,7 +2,7 @@
 
 ghost use Rattle.std.specs.Prelude.{◌<◌};
 
-use crate::{Builder, Digest, Tree, root};
+use crate::{Builder, Digest, Tree, blocks_needed, blocks_needed_of, levels, root};
 use std::alloc::{AllocError, Global};
 use std::test::Fail;
 
@@ -65,4 +65,18 @@ fn roots_are_those_known_outside(rt: HostRuntime) -> Result<(), Fail> {
         "two levels"
     );
     Ok(())
+}
+
+// Whether a blob of this size has so many blocks in version 1, in version 2, and so many levels.
+fn has_sizes(size: u64, padded: u64, compact: u64, above: u32) -> bool {
+    blocks_needed(size) == padded && blocks_needed_of(2, size) == compact && levels(size) == above
+}
+
+#[test]
+fn sizes_have_the_rows_of_the_format(rt: HostRuntime) {
+    assert!(rt; has_sizes(0, 0, 0, 0), "no bytes");
+    assert!(rt; has_sizes(8192, 1, 1, 0), "one block");
+    assert!(rt; has_sizes(8193, 3, 3, 1), "two blocks");
+    assert!(rt; has_sizes(2097152, 257, 257, 1), "a full block of digests");
+    assert!(rt; has_sizes(2097153, 260, 259, 2), "two levels");
 }
