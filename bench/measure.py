@@ -1,0 +1,84 @@
+"""What the bench scripts share: the programs that are measured, timed runs, and tables.
+
+A program of a bench lies in bench/NAME/main.rattle. It stands outside the gate: a script proves and
+builds it, for this processor, in a folder of its own over copies of the crates that it stands on.
+"""
+import os
+import pathlib
+import shutil
+import subprocess
+import tempfile
+import time
+
+TOP = pathlib.Path(__file__).resolve().parent.parent
+
+
+def blobfs():
+    """The program as `./blobfs` builds it."""
+    subprocess.run([TOP / "blobfs", "--version"], check=True, stdout=subprocess.DEVNULL)
+    return TOP / "out/blobfs"
+
+
+def crates():
+    """The repository's crates: the whole line of each, and what it stands on."""
+    lines = {}
+    for line in (TOP / "crates.txt").read_text(encoding="utf-8").splitlines():
+        head, colon, below = line.partition(":")
+        if colon and not line.startswith("#"):
+            lines[head.split()[0]] = (line, below.split())
+    return lines
+
+
+def proved_program(name, below, folder):
+    """Proves and builds bench/NAME/main.rattle over these crates, and gives the program's path."""
+    folder = pathlib.Path(folder)
+    source = folder / "crates" / name / "src"
+    source.mkdir(parents=True)
+    shutil.copy(TOP / "bench" / name / "main.rattle", source / "main.rt")
+    shutil.copy(TOP / "HANDLES", folder)
+    listed = [f"{name}: {' '.join(below)}"]
+    known, wanted, seen = crates(), list(below), set()
+    while wanted:
+        crate = wanted.pop()
+        if crate in known and crate not in seen:
+            seen.add(crate)
+            line, lower = known[crate]
+            listed.append(line)
+            wanted += lower
+            for part in ["src", "specs", "proofs"]:
+                if (TOP / "crates" / crate / part).is_dir():
+                    shutil.copytree(TOP / "crates" / crate / part, folder / "crates" / crate / part)
+    (folder / "crates.txt").write_text("\n".join(listed) + "\n", encoding="utf-8")
+    processor = pathlib.Path("/proc/cpuinfo").read_text(encoding="utf-8")
+    flags = ["--cpu", "x86-64-v3"] if "avx2" in processor else []
+    subprocess.run(["git", "init", "-q"], cwd=folder, check=True)
+    built = subprocess.run(
+        ["rt", "run", *flags], cwd=source.parent, stdin=subprocess.DEVNULL, capture_output=True,
+        text=True, check=False,
+    )
+    program = source.parent / "out" / name
+    if not program.exists():
+        raise SystemExit(built.stdout[-2000:] + built.stderr[-2000:])
+    return program
+
+
+def timed(words, stdin):
+    """One run: seconds, its most memory in bytes, and what it printed."""
+    with open(stdin, "rb") as given, tempfile.TemporaryFile() as printed:
+        start = time.perf_counter()
+        child = subprocess.Popen(words, stdin=given, stdout=printed, stderr=subprocess.DEVNULL)
+        _, status, usage = os.wait4(child.pid, 0)
+        seconds = time.perf_counter() - start
+        child.returncode = os.waitstatus_to_exitcode(status)
+        printed.seek(0)
+        text = printed.read().decode()
+    if child.returncode != 0:
+        raise SystemExit(f"{words[0]} ended with status {child.returncode}")
+    return seconds, usage.ru_maxrss * 1024, text
+
+
+def table(head, rows):
+    """Prints rows of text in columns."""
+    widths = [max(len(row[k]) for row in [head, *rows]) for k in range(len(head))]
+    for row in [head, *rows]:
+        print("  ".join(cell.rjust(width) for cell, width in zip(row, widths)))
