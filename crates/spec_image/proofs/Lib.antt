@@ -13,3 +13,4 @@ pub mod WellFormedLemmas
 pub mod MapLemmas
 pub mod CountLemmas
 pub mod BitLemmas
+pub mod SampleTreeLemmas

@@ -14,3 +14,4 @@ pub mod Chance
 pub mod Torn
 pub mod SampleJournals
 pub mod SampleNodes
+pub mod SampleTrees

@@ -1,12 +1,16 @@
 //! Journals and chains by hand, and what the definitions make of them. The checksums are those of an
 //! implementation of CRC-32 elsewhere.
 
-ghost use Rattle.std.specs.Prelude.{◌≡◌, [], ◌∷◌, true, false, Ok, Err};
+ghost use Rattle.std.specs.Prelude.{◌≡◌, [], ◌∷◌, ◌++◌, take, true, false, Ok, Err};
+ghost use Rattle.std.specs.List.{range_with_len};
+ghost use Rattle.spec_tree.specs.Tree.{filled};
 ghost use Rattle.spec_record.specs.declared.node_fault.NodeFault.TheVariants as faults;
 ghost use Rattle.spec_image.specs.After.{after};
 ghost use Rattle.spec_image.specs.Chain.{chain};
 ghost use Rattle.spec_image.specs.SampleJournals as sample;
 ghost use Rattle.spec_image.specs.SampleNodes as nodes;
+ghost use Rattle.spec_image.specs.SampleTrees as trees;
+ghost use Rattle.spec_image.specs.Stored.{stored_data, tree_block};
 ghost use Rattle.spec_image.specs.Replay.{replay, next_slot, next_number, stale_slots};
 ghost use Rattle.spec_image.specs.WellFormed.{is_well_formed, containers_placed, blocks_apart, roots_apart, bits_right, counts_right};
 
@@ -76,4 +80,21 @@ pub fn metadata_may_be_well_formed()
         ≡ false }
     ensures count { counts_right (nodes.metadata nodes.nodes_of_blob nodes.marks 1 7 2)
         ≡ false }
+{}
+
+/// In version 1 each level fills blocks of its own before the data.
+pub fn a_padded_tree_stands_before_the_data()
+    ensures first_level { tree_block (trees.blob 1) (trees.numbered 260) 1 0 ≡ 0 ∷ [] }
+    ensures next_of_it { tree_block (trees.blob 1) (trees.numbered 260) 1 1 ≡ 1 ∷ [] }
+    ensures second_level { tree_block (trees.blob 1) (trees.numbered 260) 2 0 ≡ 2 ∷ [] }
+    ensures content { stored_data (trees.blob 1) (trees.numbered 260) ≡ range_with_len 3 257 }
+{}
+
+/// In version 2 the digests stand joined behind the data, and zeros fill the last block of a level.
+pub fn a_compact_tree_stands_behind_the_data()
+    ensures first_level { tree_block (trees.blob 2) trees.compact 1 0 ≡ take 8192 trees.joined }
+    ensures next_of_it { tree_block (trees.blob 2) trees.compact 1 1 ≡ filled (trees.digest 256) }
+    ensures second_level { tree_block (trees.blob 2) trees.compact 2 0
+        ≡ filled (trees.digest 257 ++ trees.digest 258) }
+    ensures content { take 257 (stored_data (trees.blob 2) trees.compact) ≡ range_with_len 0 257 }
 {}
