@@ -1,11 +1,11 @@
 -- What the chains and the metadata by hand are, computed.
-use Rattle.std.proofs.Common.{◌≡◌, [], ◌∷◌, true, false, Result, Ok, Err, refl}
+use Rattle.std.proofs.Common.{◌≡◌, true, false, Result, Ok, Err, refl}
 use Rattle.spec_record.specs.declared.node_fault.NodeFault.{NodeFault}
 use Rattle.spec_record.specs.declared.node_fault.NodeFault.TheVariants as faults
 use Rattle.spec_tree.specs.Tree.{need_of, tree_blocks_of, levels_of, levels_above, digests_at}
 use Rattle.spec_image.specs.Chain.{BlobRecord, check_counts, walk, chain}
 use Rattle.spec_image.specs.WellFormed.{records_below, all_below, is_well_formed, containers_placed, blocks_apart, roots_apart, bits_right, counts_right}
-use Rattle.spec_image.specs.SampleNodes.{pair, inode, container, blob, metadata, marks, nodes_of_blob, empty_inode, small_inode}
+use Rattle.spec_image.specs.SampleNodes.{pair, inode, container, blob, good, orphaned, overlapping, twice, marked_past, miscounted}
 
 abbrev done : BlobRecord → Result BlobRecord NodeFault
 done b = Ok b
@@ -41,26 +41,26 @@ pub chain_container : chain (pair (inode 1) (container 0 6 1 5)) 16 1 ≡ failed
 unfolding need_of tree_blocks_of levels_of levels_above digests_at check_counts walk chain
 chain_container = refl
 
-pub metadata_good : is_well_formed (metadata nodes_of_blob marks 1 8 2) ≡ true
+pub metadata_good : is_well_formed good ≡ true
 unfolding need_of tree_blocks_of levels_of levels_above digests_at check_counts walk chain records_below all_below is_well_formed
 metadata_good = refl
 
-pub metadata_orphan : containers_placed (metadata (pair (inode 2) (container 0 6 1 5)) marks 1 8 2) ≡ false
+pub metadata_orphan : containers_placed orphaned ≡ false
 unfolding need_of tree_blocks_of levels_of levels_above digests_at check_counts walk chain records_below all_below is_well_formed
 metadata_orphan = refl
 
-pub metadata_overlap : blocks_apart (metadata (pair (small_inode 1) (small_inode 2)) (0 ∷ 2 ∷ []) 2 3 2) ≡ false
+pub metadata_overlap : blocks_apart overlapping ≡ false
 unfolding need_of tree_blocks_of levels_of levels_above digests_at check_counts walk chain records_below all_below is_well_formed
 metadata_overlap = refl
 
-pub metadata_twice : roots_apart (metadata (pair empty_inode empty_inode) (0 ∷ []) 2 1 2) ≡ false
+pub metadata_twice : roots_apart twice ≡ false
 unfolding need_of tree_blocks_of levels_of levels_above digests_at check_counts walk chain records_below all_below is_well_formed
 metadata_twice = refl
 
-pub metadata_bit : bits_right (metadata nodes_of_blob (19 ∷ marks) 1 8 2) ≡ false
+pub metadata_bit : bits_right marked_past ≡ false
 unfolding need_of tree_blocks_of levels_of levels_above digests_at check_counts walk chain records_below all_below is_well_formed
 metadata_bit = refl
 
-pub metadata_counts : counts_right (metadata nodes_of_blob marks 1 7 2) ≡ false
+pub metadata_counts : counts_right miscounted ≡ false
 unfolding need_of tree_blocks_of levels_of levels_above digests_at check_counts walk chain records_below all_below is_well_formed
 metadata_counts = refl

@@ -8,7 +8,8 @@ use Rattle.spec_record.specs.declared.info.Info.{Info}
 use Rattle.spec_record.specs.Geometry.{meta_blocks, ring_slots, info_at, ring_in}
 use Rattle.spec_record.specs.Info.{info_of}
 
--- what the info block says, or none; the block in each slot; and M, the metadata blocks that an entry may name
+-- what the info block says, or none; the block in each slot; and M, the metadata blocks that an
+-- entry may name
 pub record Journal : Type 0 where
   pub info : Option Info
   pub ring : List (List ℕ)

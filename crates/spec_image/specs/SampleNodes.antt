@@ -102,3 +102,23 @@ small_inode byte = nodes.Inode (record {
   first = at 2;
   version = 1;
 })
+
+-- well-formed metadata, and metadata in which one part is wrong: a container that no inode leads to,
+-- a data block in two extents, two blobs with one root, a mark past the data blocks, a count
+abbrev pub good : Metadata
+good = metadata nodes_of_blob marks 1 8 2
+
+abbrev pub orphaned : Metadata
+orphaned = metadata (pair (inode 2) (container 0 6 1 5)) marks 1 8 2
+
+abbrev pub overlapping : Metadata
+overlapping = metadata (pair (small_inode 1) (small_inode 2)) (0 ∷ 2 ∷ []) 2 3 2
+
+abbrev pub twice : Metadata
+twice = metadata (pair empty_inode empty_inode) (0 ∷ []) 2 1 2
+
+abbrev pub marked_past : Metadata
+marked_past = metadata nodes_of_blob (19 ∷ marks) 1 8 2
+
+abbrev pub miscounted : Metadata
+miscounted = metadata nodes_of_blob marks 1 7 2

@@ -1,5 +1,6 @@
-//! Journals and chains by hand, and what the definitions make of them. The checksums are those of an
-//! implementation of CRC-32 elsewhere.
+//! Journals, chains, metadata and trees by hand, and what the definitions make of them.
+//!
+//! The checksums are those of an implementation of CRC-32 elsewhere.
 
 ghost use Rattle.std.specs.Prelude.{◌≡◌, [], ◌∷◌, ◌++◌, take, true, false, Ok, Err};
 ghost use Rattle.std.specs.List.{range_with_len};
@@ -68,18 +69,12 @@ pub fn a_chain_names_its_first_fault()
 
 /// Metadata is well formed, and isn't where one of its parts is wrong.
 pub fn metadata_may_be_well_formed()
-    ensures well_formed { is_well_formed (nodes.metadata nodes.nodes_of_blob nodes.marks 1 8 2)
-        ≡ true }
-    ensures orphan { containers_placed (nodes.metadata (nodes.pair (nodes.inode 2) (nodes.container 0 6 1 5)) nodes.marks 1 8 2)
-        ≡ false }
-    ensures overlap { blocks_apart (nodes.metadata (nodes.pair (nodes.small_inode 1) (nodes.small_inode 2)) (0 ∷ 2 ∷ []) 2 3 2)
-        ≡ false }
-    ensures root_twice { roots_apart (nodes.metadata (nodes.pair nodes.empty_inode nodes.empty_inode) (0 ∷ []) 2 1 2)
-        ≡ false }
-    ensures bit_past_the_blocks { bits_right (nodes.metadata nodes.nodes_of_blob (19 ∷ nodes.marks) 1 8 2)
-        ≡ false }
-    ensures count { counts_right (nodes.metadata nodes.nodes_of_blob nodes.marks 1 7 2)
-        ≡ false }
+    ensures well_formed { is_well_formed nodes.good ≡ true }
+    ensures orphan { containers_placed nodes.orphaned ≡ false }
+    ensures overlap { blocks_apart nodes.overlapping ≡ false }
+    ensures root_twice { roots_apart nodes.twice ≡ false }
+    ensures bit_past_the_blocks { bits_right nodes.marked_past ≡ false }
+    ensures count { counts_right nodes.miscounted ≡ false }
 {}
 
 /// In version 1 each level fills blocks of its own before the data.
