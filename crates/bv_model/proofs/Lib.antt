@@ -1,0 +1,10 @@
+pub mod Flush
+pub mod Histories
+pub mod Holding
+pub mod Logs
+pub mod EntryLemmas
+pub mod Numbers
+pub mod Replies
+pub mod Slots
+pub mod Sums
+pub mod Timing

@@ -1,0 +1,5 @@
+use Rattle.bv_model.proofs.Replies.{some_reply_fits}
+use Rattle.bv_model.proofs.laws.some_reply_is_a_step.Goals as goal
+
+pub returns : goal.returns
+returns c = some_reply_fits

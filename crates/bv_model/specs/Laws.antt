@@ -1,0 +1,98 @@
+-- What the rules mean together: each statement is the contract of a function of `laws`.
+use Rattle.std.specs.Prelude.{◌≡◌, ℕ, Bool, true, false, ◌-◌, ◌<◌, ◌≤◌, ◌⊎◌, List, [], ◌∷◌, Some, None, is_some}
+use Rattle.spec_tree.specs.declared.Digest.{Digest}
+use Rattle.bv_model.specs.Choice.{choice, is_empty, place_of}
+use Rattle.bv_model.specs.History.{History, opening_map, last_state, room, Legal}
+use Rattle.bv_model.specs.Log.{changed}
+use Rattle.bv_model.specs.State.{State, find, held, among, is_held}
+use Rattle.bv_model.specs.Step.{Chosen, Fits, Step, after}
+use Rattle.bv_model.specs.Synced.{log_lengths, synced_by, logged_by}
+use Rattle.bv_model.specs.declared.act.Act.{Act}
+use Rattle.bv_model.specs.declared.act.Act.TheVariants.{Admit, Settle, Close, Unmount}
+use Rattle.bv_model.specs.declared.event.CoreEvent.{CoreEvent}
+use Rattle.bv_model.specs.declared.place.Place.{Place}
+use Rattle.bv_model.specs.declared.reply.Reply.{Reply}
+use Rattle.bv_model.specs.declared.reply.Reply.TheVariants.{DeviceFault, ReadFault}
+use Rattle.bv_model.specs.declared.setting.Setting.{Setting}
+use Rattle.bv_model.specs.declared.who.Who.{Who}
+
+-- ---- one step
+
+-- with the reply given, there is one new state
+abbrev pub OneNewState : Type 0
+OneNewState = (g : Setting) (old new other : State) (e : CoreEvent) → Step g old e new → Step g old e other → new ≡ other
+
+-- the event is an admit
+abbrev pub is_admit : Act → Bool
+is_admit (Admit r) = true
+is_admit _ = false
+
+-- the reply tells that the device failed
+abbrev pub is_fault : Reply → Bool
+is_fault (DeviceFault f) = true
+is_fault (ReadFault f) = true
+is_fault _ = false
+
+-- but for admit, and for a device that fails, there is one reply
+abbrev pub OneReply : Type 0
+OneReply =
+    (g : Setting) (s : State) (who : Who) (act : Act) (q r : Reply) → is_admit act ≡ false → Chosen (choice g s who act) q
+    → Chosen (choice g s who act) r → is_fault q ≡ false → is_fault r ≡ false → q ≡ r
+
+-- the condition of the table's rows on the event itself
+abbrev pub MayCome : State → Act → Type 0
+MayCome s (Admit r) = is_some (find s.adds r) ≡ true
+MayCome s (Settle r) = is_some (find s.adds r) ≡ true
+MayCome s Unmount = is_empty s.adds ≡ true
+MayCome s _ = Unit {0}
+
+-- an event that may come has a reply with which it is a Step
+abbrev pub SomeReply : Type 0
+SomeReply =
+    (g : Setting) (s : State) (who : Who) (act : Act) (calls : ℕ) → MayCome s act
+    → (reply : Reply) × (new : State) × Step g s (record { who = who; act = act; reply = reply; calls = calls }) new
+
+-- ---- histories
+
+-- the room is at least 0 and at most all blocks but block 0
+abbrev pub RoomIsBounded : Type 0
+RoomIsBounded = (h : History) → (0 ≤ room h) × (room h ≤ h.blocks - 1)
+
+-- the number of the first entry has a part only in the number of the next one
+abbrev pub NumbersAreApart : Type 0
+NumbersAreApart =
+    (h : History) (next : ℕ) → last_state h next ≡ record (last_state h 0) { next = (last_state h next).next }
+
+-- while no write or sync failed, the map is the opening changed by the log
+abbrev pub LogMakesMap : Type 0
+LogMakesMap =
+    (h : History) (next : ℕ) → (last_state h next).stopped ≡ None
+    → (last_state h next).map ≡ changed (opening_map h) (last_state h next).log
+
+-- a root that a slot holds is in the map, and isn't queued to be purged
+abbrev pub HeldRootsStay : Type 0
+HeldRootsStay =
+    (h : History) (next : ℕ) (r : Digest) → Legal h next → is_held (last_state h next).slots r ≡ true
+    → (is_some (find (last_state h next).map r) ≡ true) × (among (last_state h next).queue r ≡ false)
+
+-- the event empties this place: it is unmount, or closes the place
+abbrev pub Empties : Place → Who → Act → Type 0
+Empties p who (Close slot) = place_of who slot ≡ p
+Empties p who Unmount = Unit {0}
+Empties p who _ = ⊥
+
+-- what a slot holds stays there until an event empties it
+abbrev pub SlotsStay : Type 0
+SlotsStay =
+    (g : Setting) (s : State) (e : CoreEvent) (p : Place) (r : Digest) → Fits g s e → held s.slots p ≡ Some r
+    → ¬ Empties p e.who e.act → held (after g s e).slots p ≡ Some r
+
+-- after so many calls and with a log of this length, the log grows only in events that make calls
+abbrev pub GrowsWithCalls : ℕ → ℕ → List (CoreEvent × ℕ) → Type 0
+GrowsWithCalls calls len [] = Unit {0}
+GrowsWithCalls calls len (p ∷ ps) = ((calls < p.0.calls) ⊎ (p.1 ≡ len)) × GrowsWithCalls p.0.calls p.1 ps
+
+-- what is durable is logged, where the log grows only in events that make calls
+abbrev pub SyncedIsLogged : Type 0
+SyncedIsLogged =
+    (h : History) (next calls : ℕ) → Legal h next → GrowsWithCalls 0 0 (log_lengths h) → synced_by h calls ≤ logged_by h calls

@@ -1,0 +1,13 @@
+pub mod Change
+pub mod Choice
+pub mod Core
+pub mod History
+pub mod Kept
+pub mod Laws
+pub mod Log
+pub mod Order
+pub mod Room
+pub mod State
+pub mod Step
+pub mod Synced
+pub mod Tables
