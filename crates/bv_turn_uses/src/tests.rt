@@ -6,7 +6,7 @@ use std::test::Fail;
 
 // What session s adds in its nth line.
 fn amount(session: u32, n: u64) -> u64 {
-    10 * u64::from(session) + n
+    (10 * u64::from(session)).wrapping_add(n)
 }
 
 // Each session's lines, one of each in turn.
@@ -51,7 +51,7 @@ fn each_sessions_events_stand_in_its_order(rt: HostRuntime) -> Result<(), Fail> 
                     amount(session, n),
                     "session {session}, line {n}"
                 );
-                n += 1;
+                n = n.wrapping_add(1);
             }
             assert_eq!(rt; n, lines, "session {session}");
         }
