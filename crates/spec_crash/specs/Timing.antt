@@ -1,0 +1,86 @@
+-- How the events of a device time a history (this project's profile).
+--
+-- `calls` of a history's event is the number of writes and syncs since the mount began: a place in the list of the
+-- device's events, counted from 1.
+use Rattle.std.specs.Prelude.{◌≡◌, ◌<◌, ◌⊎◌, ◌++◌, ℕ, zero, suc, ◌+◌, List, [], ◌∷◌, length, true, All, Option, None, IsSomeAnd, IsTrue, slice_get}
+use Rattle.spec_disk.specs.declared.event.Event.{Event}
+use Rattle.spec_disk.specs.declared.event.Event.TheVariants as device
+use Rattle.bv_model.specs.declared.act.Act.{Act}
+use Rattle.bv_model.specs.declared.act.Act.TheVariants as acts
+use Rattle.bv_model.specs.declared.reply.Reply.TheVariants as replies
+use Rattle.bv_model.specs.declared.event.CoreEvent.{CoreEvent}
+use Rattle.bv_model.specs.History.{History}
+use Rattle.bv_model.specs.Synced.{tells_durable}
+
+-- the device's event at a place, or none
+abbrev pub event_at : List Event → ℕ → Option Event
+event_at events zero = None
+event_at events (suc before) = slice_get events before
+
+abbrev pub IsOkWrite : Event → Type 0
+IsOkWrite (device.Write at bytes ok) = IsTrue ok
+IsOkWrite (device.Sync ok) = ⊥
+
+abbrev pub IsOkSync : Event → Type 0
+IsOkSync (device.Write at bytes ok) = ⊥
+IsOkSync (device.Sync ok) = IsTrue ok
+
+-- the relation holds from each event of a history to the next
+abbrev pub FromEachToNext : (CoreEvent → CoreEvent → Type 0) → List CoreEvent → Type 0
+FromEachToNext R [] = Unit {0}
+FromEachToNext R (e ∷ []) = Unit {0}
+FromEachToNext R (e ∷ f ∷ events) = R e f × FromEachToNext R (f ∷ events)
+
+-- the last of these events, if there is one, has P
+abbrev pub LastHas : (CoreEvent → Type 0) → List CoreEvent → Type 0
+LastHas P [] = Unit {0}
+LastHas P (e ∷ []) = P e
+LastHas P (e ∷ f ∷ events) = LastHas P (f ∷ events)
+
+-- the events that may write and sync
+abbrev pub MayCall : Act → Type 0
+MayCall (acts.Put index) = Unit {0}
+MayCall (acts.Settle root) = Unit {0}
+MayCall acts.Sync = Unit {0}
+MayCall acts.Unmount = Unit {0}
+MayCall _ = ⊥
+
+abbrev pub IsPut : Act → Type 0
+IsPut (acts.Put index) = Unit {0}
+IsPut _ = ⊥
+
+-- a put that replied `written`
+abbrev pub IsWritten : CoreEvent → Type 0
+IsWritten e = IsPut e.act × (e.reply ≡ replies.Written)
+
+-- From event to event, calls rises only in put, settle, sync and unmount.
+abbrev pub RisesInCalls : History → Type 0
+RisesInCalls h = FromEachToNext (λ old new. old.calls < new.calls → MayCall new.act) h.events
+
+-- A put that replied `written` raises calls by one, and calls is then the place of an Ok write.
+pub record PutsWrite (events : List Event) (h : History) : Type 0 where
+  pub one : FromEachToNext (λ old new. IsWritten new → new.calls ≡ old.calls + 1) h.events
+  pub written : All (λ e. IsWritten e → IsSomeAnd (event_at events e.calls) IsOkWrite) h.events
+
+-- After a reply `synced` or `unmounted`, calls is the place of an Ok sync.
+abbrev pub RepliesSync : List Event → History → Type 0
+RepliesSync events h =
+    All (λ e. IsTrue (tells_durable e.reply) → IsSomeAnd (event_at events e.calls) IsOkSync) h.events
+
+-- After the last event, calls is the number of the device's events.
+abbrev pub EndsAtLast : List Event → History → Type 0
+EndsAtLast events h = LastHas (λ e. e.calls ≡ length events) h.events
+
+-- a history is timed by these events of the device
+pub record IsTimed (events : List Event) (h : History) : Type 0 where
+  pub rises : RisesInCalls h
+  pub puts : PutsWrite events h
+  pub syncs : RepliesSync events h
+  pub ends : EndsAtLast events h
+
+-- a new event e of a history ends with these calls: those before it, and those that it made
+pub record TimesOne (events more : List Event) (e : CoreEvent) : Type 0 where
+  pub calls : e.calls ≡ length events + length more
+  pub silent : (more ≡ []) ⊎ MayCall e.act
+  pub written : IsWritten e → (at : ℕ) × (bytes : List ℕ) × (more ≡ device.Write at bytes true ∷ [])
+  pub synced : IsTrue (tells_durable e.reply) → (q : List Event) × (more ≡ q ++ device.Sync true ∷ [])
