@@ -1,3 +1,4 @@
+pub mod CarryLemmas
 pub mod CrashLemmas
 pub mod FormatLemmas
 pub mod TimingLemmas

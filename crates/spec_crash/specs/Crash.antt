@@ -1,7 +1,7 @@
 -- What a stop of the machine leaves of a mounted volume (this project's profile).
 --
 -- `base` is the disk when the mount began, `events` are the device's events since, `h` is the history of the mount.
-use Rattle.std.specs.Prelude.{◌≡◌, ◌≤◌, ◌⊎◌, ℕ, List, length, take, map, All, Contains, Some}
+use Rattle.std.specs.Prelude.{◌≡◌, ◌<◌, ◌≤◌, ◌⊎◌, ◌++◌, ℕ, List, length, take, map, All, Contains, Some}
 use Rattle.spec_tree.specs.declared.Digest.{Digest}
 use Rattle.spec_tree.specs.declared.blob.Blob.{Blob}
 use Rattle.spec_disk.specs.declared.event.Event.{Event}
@@ -42,3 +42,8 @@ pub record CrashPrefix (base : Blocks) (events : List Event) (h : History) : Typ
   pub stops : (n : ℕ) (j : Blocks) → n ≤ length events
       → IsImage base (take n events) j → NoChance base (take n events) j → HoldsPrefix h n j
   pub timed : IsTimed events h
+
+-- each image of each prefix that ends within the later ones of these events holds such a prefix of the log
+abbrev pub StopsWithin : Blocks → List Event → List Event → History → Type 0
+StopsWithin base events more h = (n : ℕ) (j : Blocks) → length events < n → n ≤ length (events ++ more)
+    → IsImage base (take n (events ++ more)) j → NoChance base (take n (events ++ more)) j → HoldsPrefix h n j

@@ -11,7 +11,7 @@ ghost use Rattle.spec_record.specs.declared.super_fault.SuperFault.TheVariants.{
 ghost use Rattle.spec_record.specs.Superblock.{super_or_fault};
 ghost use Rattle.bv_model.specs.Log.{changed};
 ghost use Rattle.bv_model.specs.Synced.{synced_by};
-ghost use Rattle.spec_crash.specs.Crash.{HoldsWhole, CrashPrefix};
+ghost use Rattle.spec_crash.specs.Crash.{HoldsWhole, CrashPrefix, StopsWithin};
 ghost use Rattle.spec_crash.specs.Format.{head};
 ghost use Rattle.spec_crash.specs.Timing.{IsTimed, TimesOne};
 
@@ -47,4 +47,12 @@ pub fn a_head_of_zeros_is_refused()
 pub fn one_event_more_is_timed()
     ensures { (events more : List Event) (h : History) (e : CoreEvent)
         → IsTimed events h → TimesOne events more e → IsTimed (events ++ more) (with_event h e) }
+{}
+
+/// A mount keeps the theorem over one event more, if each stop within the event keeps it.
+pub fn one_event_more_keeps_the_theorem()
+    ensures { (base : Blocks) (events more : List Event) (h : History) (e : CoreEvent)
+        → CrashPrefix base events h → TimesOne events more e
+        → StopsWithin base events more (with_event h e)
+        → CrashPrefix base (events ++ more) (with_event h e) }
 {}
