@@ -1,6 +1,7 @@
 -- What a stop of the machine leaves of a device that is being formatted (this project's profile).
 --
--- `base` and `before` are the disk and its events when the call began, `events` are the events of the call so far.
+-- `base` and `before` are the disk and its events when the call began, `events` are the events of the
+-- call so far.
 use Rattle.std.specs.Prelude.{◌≡◌, ◌≤◌, ◌⊎◌, ℕ, List, [], ◌++◌, length, take, replicate, false, Some, Err, IsSomeAnd}
 use Rattle.spec_disk.specs.declared.event.Event.{Event}
 use Rattle.spec_disk.specs.Disk.{Blocks, block, sector, now_after, has_sync}
@@ -29,9 +30,10 @@ pub record IsEmptyVolume (geometry : Geometry) (j : Blocks) : Type 0 where
   pub made : IsSomeAnd (metadata_of j) (λ m. m.super.geometry ≡ geometry)
   pub empty : blobs j ≡ Some []
 
--- FormatStop: on a device that was settled when the call began, each image of each prefix of the call's events has
--- the old head, or none, or is the new empty volume
+-- FormatStop: on a device that was settled when the call began, each image of each prefix of the
+-- call's events has the old head, or none, or is the new empty volume
 abbrev pub FormatStop : Blocks → List Event → List Event → Geometry → Type 0
 FormatStop base before events geometry =
-    IsSettled before → (n : ℕ) (j : Blocks) → n ≤ length events → IsImage base (before ++ take n events) j
+    IsSettled before → (n : ℕ) (j : Blocks) → n ≤ length events
+    → IsImage base (before ++ take n events) j
     → HasOldHead base before (take n events) j ⊎ (HasNoHead j ⊎ IsEmptyVolume geometry j)

@@ -1,7 +1,7 @@
 -- How the events of a device time a history (this project's profile).
 --
--- `calls` of a history's event is the number of writes and syncs since the mount began: a place in the list of the
--- device's events, counted from 1.
+-- `calls` of a history's event is the number of writes and syncs since the mount began: a place in the
+-- list of the device's events, counted from 1.
 use Rattle.std.specs.Prelude.{◌≡◌, ◌<◌, ◌⊎◌, ◌++◌, ℕ, zero, suc, ◌+◌, List, [], ◌∷◌, length, true, All, Option, None, IsSomeAnd, IsTrue, slice_get}
 use Rattle.spec_disk.specs.declared.event.Event.{Event}
 use Rattle.spec_disk.specs.declared.event.Event.TheVariants as device
@@ -65,7 +65,8 @@ pub record PutsWrite (events : List Event) (h : History) : Type 0 where
 -- After a reply `synced` or `unmounted`, calls is the place of an Ok sync.
 abbrev pub RepliesSync : List Event → History → Type 0
 RepliesSync events h =
-    All (λ e. IsTrue (tells_durable e.reply) → IsSomeAnd (event_at events e.calls) IsOkSync) h.events
+    All (λ e. IsTrue (tells_durable e.reply) → IsSomeAnd (event_at events e.calls) IsOkSync)
+    h.events
 
 -- After the last event, calls is the number of the device's events.
 abbrev pub EndsAtLast : List Event → History → Type 0
@@ -83,4 +84,5 @@ pub record TimesOne (events more : List Event) (e : CoreEvent) : Type 0 where
   pub calls : e.calls ≡ length events + length more
   pub silent : (more ≡ []) ⊎ MayCall e.act
   pub written : IsWritten e → (at : ℕ) × (bytes : List ℕ) × (more ≡ device.Write at bytes true ∷ [])
-  pub synced : IsTrue (tells_durable e.reply) → (q : List Event) × (more ≡ q ++ device.Sync true ∷ [])
+  pub synced : IsTrue (tells_durable e.reply)
+      → (q : List Event) × (more ≡ q ++ device.Sync true ∷ [])

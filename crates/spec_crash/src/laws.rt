@@ -43,7 +43,8 @@ pub fn a_head_of_zeros_is_refused()
         → head j ≡ replicate 512 0 → super_or_fault (block j 0) blocks ≡ Err Magic }
 {}
 
-/// An event that follows on the device's events so far, with the events that it made, keeps a history timed.
+/// An event that follows on the device's events so far, with those that it made, keeps a history
+/// timed.
 pub fn one_event_more_is_timed()
     ensures { (events more : List Event) (h : History) (e : CoreEvent)
         → IsTimed events h → TimesOne events more e → IsTimed (events ++ more) (with_event h e) }

@@ -1,4 +1,5 @@
-//! What a stop of the machine leaves of a volume: the theorem that every mounted volume keeps, and that of `format`.
+//! What a stop of the machine leaves of a volume: the theorem that every mounted volume keeps, and
+//! that of `format`.
 #![tactic(auto)]
 
 mod laws;

@@ -1,8 +1,9 @@
--- The disk: what the events of a device make of its blocks, and how far its syncs reach (this project's profile).
+-- The disk: what the events of a device make of its blocks, and how far its syncs reach (this
+-- project's profile).
 --
--- A disk is its list of blocks, and a block its list of bytes: 8,192 of them, which are 16 sectors of 512. `base` is
--- the disk before any event, and `p` a list of events in their order. A place past the end of a disk holds the empty
--- block, and a write there changes nothing.
+-- A disk is its list of blocks, and a block its list of bytes: 8,192 of them, which are 16 sectors of
+-- 512. `base` is the disk before any event, and `p` a list of events in their order. A place past the
+-- end of a disk holds the empty block, and a write there changes nothing.
 use Rattle.std.specs.Prelude.{ℕ, ◌*◌, List, [], ◌∷◌, length, take, drop, Bool, true, false, if◌then◌else◌, ◌==◌, slice_index_or, slice_set}
 use Rattle.spec_disk.specs.declared.event.Event.{Event}
 use Rattle.spec_disk.specs.declared.event.Event.TheVariants.{Write, Sync}
@@ -52,14 +53,15 @@ unsynced_part p = drop (length (synced_part p)) p
 abbrev pub synced_after : Blocks → List Event → Blocks
 synced_after base p = now_after base (synced_part p)
 
--- whether the last of these events that tells of block b leaves it readable, `right` where none does: a write tells by
--- its outcome, an Ok sync makes every block readable
+-- whether block b reads right after these events, where `right` says whether it did before: a write to
+-- it decides by its outcome, and an Ok sync makes it right
 abbrev pub reads_right_from : Bool → ℕ → List Event → Bool
 reads_right_from right b [] = right
-reads_right_from right b (Write at bytes ok ∷ p) = reads_right_from (if at == b then ok else right) b p
+reads_right_from right b (Write at bytes ok ∷ p) =
+    reads_right_from (if at == b then ok else right) b p
 reads_right_from right b (Sync true ∷ p) = reads_right_from true b p
 reads_right_from right b (Sync false ∷ p) = reads_right_from right b p
 
--- whether a read of block b gives what Now has: not where its last write failed with no Ok sync after it
+-- whether a read of block b gives what Now has: not where its last write failed with no Ok sync after
 abbrev pub reads_right : List Event → ℕ → Bool
 reads_right p b = reads_right_from true b p

@@ -1,7 +1,8 @@
 -- What a stop of the machine may leave of a disk (this project's profile).
 --
--- Each sector by itself holds what it held at the last Ok sync, or what one of the writes since gave it. Failed writes
--- count, and so does the write under way: a stop within a write is a stop after the event of that write.
+-- Each sector by itself holds what it held at the last Ok sync, or what one of the writes since gave
+-- it. Failed writes count, and so does the write under way: a stop within a write is a stop after the
+-- event of that write.
 use Rattle.std.specs.Prelude.{◌≡◌, ℕ, List, [], ◌∷◌, length, map, if◌then◌else◌, ◌==◌, Contains}
 use Rattle.spec_disk.specs.declared.event.Event.{Event}
 use Rattle.spec_disk.specs.declared.event.Event.TheVariants.{Write, Sync}
@@ -17,9 +18,14 @@ written_to b (Sync ok ∷ p) = written_to b p
 abbrev pub pending : List Event → ℕ → List (List ℕ)
 pending p b = written_to b (unsynced_part p)
 
--- what a stop may leave in sector s of block b: its synced value, then the values written since, in order
+-- sector s of each of these blocks
+abbrev pub sectors_at : ℕ → List (List ℕ) → List (List ℕ)
+sectors_at s blocks = map (λ bytes. sector bytes s) blocks
+
+-- what a stop may leave in sector s of block b: its synced value, then the values written since, in
+-- order
 abbrev pub candidates : Blocks → List Event → ℕ → ℕ → List (List ℕ)
-candidates base p b s = map (λ bytes. sector bytes s) (block (synced_after base p) b ∷ pending p b)
+candidates base p b s = sectors_at s (block (synced_after base p) b ∷ pending p b)
 
 -- Images: a stop after these events may leave j. Past a block's last sector every sector is empty.
 pub record IsImage (base : Blocks) (p : List Event) (j : Blocks) : Type 0 where

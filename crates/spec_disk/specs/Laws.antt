@@ -16,9 +16,11 @@ pub record IsSyncedPart (p q : List Event) : Type 0 where
   pub longest : (a r : List Event) → p ≡ a ++ r → EndsSynced a → length a ≤ length q
 
 -- j is an image of p, but that a sector of block `at` may be that of these bytes
-pub record IsImageWith (base : Blocks) (p : List Event) (at : ℕ) (bytes : List ℕ) (j : Blocks) : Type 0 where
+pub record IsImageWith (base : Blocks) (p : List Event) (at : ℕ) (bytes : List ℕ) (j : Blocks)
+    : Type 0 where
   pub as_long : length j ≡ length base
-  pub each_sector : (b s : ℕ) → Contains (candidates base p b s) (sector (block j b) s) ⊎ ((b ≡ at) × (sector (block j b) s ≡ sector bytes s))
+  pub each_sector : (b s : ℕ) → Contains (candidates base p b s) (sector (block j b) s)
+      ⊎ ((b ≡ at) × (sector (block j b) s ≡ sector bytes s))
 
 -- a write to block b failed, and neither a write to it nor an Ok sync came after
 pub record FailedLast (p : List Event) (b : ℕ) : Type 0 where

@@ -1,8 +1,8 @@
 //! Whether a stop may leave a disk, found by comparing sector after sector.
 
-ghost use Rattle.std.specs.Prelude.{◌≡◌, ◌<◌, ◌↔◌, ℕ, [], ◌∷◌, map, length, IfOk, IsTrue, Contains};
+ghost use Rattle.std.specs.Prelude.{◌≡◌, ◌<◌, ◌↔◌, ℕ, [], ◌∷◌, length, IfOk, IsTrue, Contains};
 ghost use Rattle.spec_disk.specs.Disk.{block, sector};
-ghost use Rattle.spec_disk.specs.Images.{written_to, IsImage};
+ghost use Rattle.spec_disk.specs.Images.{written_to, sectors_at, IsImage};
 
 use crate::event::Event;
 use crate::now::{Block, synced_len, synced_of};
@@ -29,7 +29,8 @@ pub fn is_image(
 fn are_blocks_left(image: &[Block], synced: &[Block], since: &[Event]) -> bool
     requires { length image.now ≡ length synced.now }
     ensures { IsTrue result ↔ ((b s : ℕ) → b < length image.now
-        → Contains (map (λ w. sector w s) (block synced.now b ∷ written_to b since.now)) (sector (block image.now b) s)) }
+        → Contains (sectors_at s (block synced.now b ∷ written_to b since.now))
+        (sector (block image.now b) s)) }
 {
     for b in 0..image.len() {
         if !is_block_left(&image[b], &synced[b], since, b as u64) {
@@ -42,7 +43,7 @@ fn are_blocks_left(image: &[Block], synced: &[Block], since: &[Event]) -> bool
 /// Whether each sector of `block` is that of `synced`, or of a write of these events to block `at`.
 fn is_block_left(block: &Block, synced: &Block, since: &[Event], at: u64) -> bool
     ensures { IsTrue result ↔ ((s : ℕ)
-        → Contains (map (λ w. sector w s) (synced.now ∷ written_to at since.now)) (sector block.now s)) }
+        → Contains (sectors_at s (synced.now ∷ written_to at since.now)) (sector block.now s)) }
 {
     for s in 0..16 {
         if !is_sector_left(block, synced, since, at, s) {
@@ -56,7 +57,7 @@ fn is_block_left(block: &Block, synced: &Block, since: &[Event], at: u64) -> boo
 fn is_sector_left(block: &Block, synced: &Block, since: &[Event], at: u64, s: usize) -> bool
     requires { s < 16 }
     ensures { IsTrue result
-        ↔ Contains (map (λ w. sector w s) (synced.now ∷ written_to at since.now)) (sector block.now s) }
+        ↔ Contains (sectors_at s (synced.now ∷ written_to at since.now)) (sector block.now s) }
 {
     let piece = sector_of(block, s);
     *piece == *sector_of(synced, s) || is_written(since, at, s, piece)
@@ -65,7 +66,7 @@ fn is_sector_left(block: &Block, synced: &Block, since: &[Event], at: u64, s: us
 /// Whether a write of these events to block `at` has this sector `s`.
 fn is_written(since: &[Event], at: u64, s: usize, piece: &[u8]) -> bool
     requires { s < 16 }
-    ensures { IsTrue result ↔ Contains (map (λ w. sector w s) (written_to at since.now)) piece.now }
+    ensures { IsTrue result ↔ Contains (sectors_at s (written_to at since.now)) piece.now }
 {
     for event in since {
         if writes(event, at, s, piece) {
@@ -79,7 +80,7 @@ fn is_written(since: &[Event], at: u64, s: usize, piece: &[u8]) -> bool
 fn writes(event: &Event, at: u64, s: usize, piece: &[u8]) -> bool
     requires { s < 16 }
     ensures { IsTrue result
-        ↔ Contains (map (λ w. sector w s) (written_to at (event.now ∷ []))) piece.now }
+        ↔ Contains (sectors_at s (written_to at (event.now ∷ []))) piece.now }
 {
     match event {
         Event::Write {

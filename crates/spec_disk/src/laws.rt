@@ -1,5 +1,5 @@
-//! The laws that show the definitions of the disk to be meant right: each is the contract of a function that does
-//! nothing.
+//! The laws that show the definitions of the disk to be meant right: each is the contract of a
+//! function that does nothing.
 
 ghost use Rattle.std.specs.Prelude.{◌≡◌, ◌≢◌, ◌⊎◌, ◌↔◌, ℕ, List, [], ◌∷◌, ◌++◌, length, Bool, true, false, slice_set};
 ghost use Rattle.spec_disk.specs.declared.event.Event.{Event};
@@ -8,7 +8,7 @@ ghost use Rattle.spec_disk.specs.Disk.{Blocks, block, sector, has_sync, now_afte
 ghost use Rattle.spec_disk.specs.Images.{pending, IsImage, IsSettled};
 ghost use Rattle.spec_disk.specs.Laws.{IsSyncedPart, IsImageWith, FailedLast, AreWhole, WriteWhole};
 
-/// The synced part is the longest prefix that ends with an Ok sync or is empty, and the only such one.
+/// The synced part is the one longest prefix that ends with an Ok sync or is empty.
 pub fn synced_part_is_the_longest()
     ensures is { (p : List Event) → IsSyncedPart p (synced_part p) }
     ensures only { (p q : List Event) → IsSyncedPart p q → q ≡ synced_part p }
@@ -30,7 +30,8 @@ pub fn a_sync_leaves_now()
 pub fn a_settled_disk_has_one_image()
     ensures image { (base j : Blocks) (p : List Event)
         → IsSettled p → IsImage base p j ↔ (j ≡ synced_after base p) }
-    ensures now { (base : Blocks) (p : List Event) → IsSettled p → synced_after base p ≡ now_after base p }
+    ensures now { (base : Blocks) (p : List Event)
+        → IsSettled p → synced_after base p ≡ now_after base p }
     ensures sync { (p : List Event) → IsSettled (p ++ Sync true ∷ []) }
 {}
 
@@ -46,7 +47,7 @@ pub fn an_unwritten_block_is_as_synced()
         → pending p b ≡ [] → IsImage base p j → block j b ≡ block (synced_after base p) b }
 {}
 
-/// One more write changes an image in its own block alone, sector by sector, and takes no image away.
+/// One more write changes an image in its own block alone, sector by sector, and takes none away.
 pub fn a_write_changes_sectors_of_its_block()
     ensures sectors { (base j : Blocks) (p : List Event) (at : ℕ) (bytes : List ℕ) (ok : Bool)
         → IsImage base (p ++ Write at bytes ok ∷ []) j ↔ IsImageWith base p at bytes j }
@@ -61,11 +62,14 @@ pub fn a_write_changes_sectors_of_its_block()
 /// A failed write leaves the images of an Ok one, and a failed sync those that there were.
 pub fn a_failure_leaves_known_images()
     ensures write { (base j : Blocks) (p : List Event) (at : ℕ) (bytes : List ℕ)
-        → IsImage base (p ++ Write at bytes false ∷ []) j ↔ IsImage base (p ++ Write at bytes true ∷ []) j }
-    ensures sync { (base j : Blocks) (p : List Event) → IsImage base (p ++ Sync false ∷ []) j ↔ IsImage base p j }
+        → IsImage base (p ++ Write at bytes false ∷ []) j
+        ↔ IsImage base (p ++ Write at bytes true ∷ []) j }
+    ensures sync { (base j : Blocks) (p : List Event)
+        → IsImage base (p ++ Sync false ∷ []) j ↔ IsImage base p j }
 {}
 
-/// A read may give something else than Now only where the block's last write failed with no Ok sync after it.
+/// A read may give something else than Now only where the block's last write failed with no Ok sync
+/// after it.
 pub fn reads_are_wrong_after_a_failed_write()
     ensures { (p : List Event) (b : ℕ) → (reads_right p b ≡ false) ↔ FailedLast p b }
 {}

@@ -1,4 +1,4 @@
-//! The laws of one event more: what a call of a device changes of everything that is told of the disk.
+//! The laws of one event more: what a write or a sync changes of all that is told of the disk.
 
 ghost use Rattle.std.specs.Prelude.{◌≡◌, ◌==◌, ℕ, List, [], ◌∷◌, ◌++◌, Bool, true, false, if◌then◌else◌, slice_set};
 ghost use Rattle.spec_disk.specs.declared.event.Event.{Event};
@@ -37,7 +37,8 @@ pub fn synced_with_one_event_more()
 /// What is pending at a block gains what is written to it, and an Ok sync ends it.
 pub fn pending_with_one_event_more()
     ensures write { (p : List Event) (at : ℕ) (bytes : List ℕ) (ok : Bool) (b : ℕ)
-        → pending (p ++ Write at bytes ok ∷ []) b ≡ pending p b ++ (if at == b then bytes ∷ [] else []) }
+        → pending (p ++ Write at bytes ok ∷ []) b
+        ≡ pending p b ++ (if at == b then bytes ∷ [] else []) }
     ensures sync { (p : List Event) (b : ℕ) → pending (p ++ Sync true ∷ []) b ≡ [] }
     ensures failed { (p : List Event) (b : ℕ) → pending (p ++ Sync false ∷ []) b ≡ pending p b }
 {}
