@@ -1,5 +1,5 @@
 -- A source and a sink in memory, whose calls fail by a list of numbers.
-use Rattle.std.specs.Prelude.{◌≡◌, ◌⊎◌, ℕ, ◌+◌, ◌-◌, ◌^◌, min, List, Contains}
+use Rattle.std.specs.Prelude.{ℕ, ◌+◌, ◌-◌, ◌^◌, min, List, Contains}
 
 -- a source in memory: the bytes not yet taken, the numbers of the calls that fail, the calls made,
 -- and those that failed
@@ -21,6 +21,6 @@ pub record HeldSink : Type 0 where
 abbrev pub next_call : ℕ → ℕ
 next_call calls = min (calls + 1) (2 ^ 64 - 1)
 
--- The next call is one that fails: its number is named, or the count of calls is at its last value.
+-- the next call is one that fails: its number is named
 abbrev pub IsNamed : List ℕ → ℕ → Type 0
-IsNamed fails calls = Contains fails (calls + 1) ⊎ (calls ≡ 2 ^ 64 - 1)
+IsNamed fails calls = Contains fails (next_call calls)

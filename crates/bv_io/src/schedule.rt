@@ -18,10 +18,7 @@ impl Schedule {
         ensures calls { self.new.calls ≡ next_call self.old.calls }
         ensures fails { self.new.fails ≡ self.old.fails }
     {
-        if self.calls == u64::MAX {
-            return true;
-        }
-        self.calls += 1;
+        self.calls = self.calls.saturating_add(1);
         self.fails.as_slice().contains(&self.calls)
     }
 }

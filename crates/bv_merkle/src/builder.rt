@@ -100,7 +100,7 @@ impl Builder {
     }
 
     /// The tree of the bytes.
-    pub fn finish(self, _alloc: Global) -> Result<Tree, AllocError>
+    pub fn finish(self, alloc: Global) -> Result<Tree, AllocError>
         requires { built self ≡ size_of self }
         ensures ok { IsOk result }
         ensures root { (m : List ℕ) → Builds self m → IfOk result (λ tree. tree.root ≡ root_of m) }
@@ -116,7 +116,7 @@ impl Builder {
         let root = hasher.close();
         let levels = match hasher.into_kept() {
             Some(kept) => kept.into_levels(),
-            None => Vec::new(_alloc),
+            None => Vec::new(alloc),
         };
         Ok(Tree { root, levels })
     }
