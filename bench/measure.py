@@ -3,11 +3,9 @@
 A program of a bench lies in bench/NAME/main.rattle. It stands outside the gate: a script proves and
 builds it, for this processor, in a folder of its own over copies of the crates that it stands on.
 """
-import os
 import pathlib
 import shutil
 import subprocess
-import tempfile
 import time
 
 TOP = pathlib.Path(__file__).resolve().parent.parent
@@ -63,18 +61,22 @@ def proved_program(name, below, folder):
 
 
 def timed(words, stdin):
-    """One run: seconds, its most memory in bytes, and what it printed."""
-    with open(stdin, "rb") as given, tempfile.TemporaryFile() as printed:
+    """One run: seconds, and what it printed."""
+    with open(stdin, "rb") as given:
         start = time.perf_counter()
-        child = subprocess.Popen(words, stdin=given, stdout=printed, stderr=subprocess.DEVNULL)
-        _, status, usage = os.wait4(child.pid, 0)
-        seconds = time.perf_counter() - start
-        child.returncode = os.waitstatus_to_exitcode(status)
-        printed.seek(0)
-        text = printed.read().decode()
-    if child.returncode != 0:
-        raise SystemExit(f"{words[0]} ended with status {child.returncode}")
-    return seconds, usage.ru_maxrss * 1024, text
+        done = subprocess.run(words, stdin=given, capture_output=True, text=True, check=True)
+        return time.perf_counter() - start, done.stdout
+
+
+def most_memory(words, stdin):
+    """The most memory of one run in MiB, as text; a dash where GNU time isn't there to say it."""
+    if not shutil.which("time"):
+        return "-"
+    with open(stdin, "rb") as given:
+        done = subprocess.run(
+            ["time", "-f", "%M", *words], stdin=given, capture_output=True, text=True, check=True
+        )
+    return f"{int(done.stderr.split()[-1]) / 1024:.1f}"
 
 
 def table(head, rows):

@@ -9,7 +9,7 @@ import pathlib
 import shutil
 import tempfile
 
-from measure import blobfs, proved_program, table, timed
+from measure import blobfs, most_memory, proved_program, table, timed
 
 SIZES = [("1 KiB", 1 << 10), ("1 MiB", 1 << 20), ("64 MiB", 1 << 26)]
 RUNS = 9
@@ -28,15 +28,14 @@ def commands(program, blocks, path):
 
 
 def best_of(found, path):
-    """The best seconds and the most memory of each command, run in turns."""
+    """The best seconds of each command, run in turns."""
     best = {}
     for _ in range(RUNS):
         for name, words in found.items():
-            seconds, memory, text = timed(words, path)
+            seconds, text = timed(words, path)
             if name == "sha2 blocks":
                 seconds = max(int(text.split()[1]), 1) / 1e6
-            fastest, most = best.get(name, (seconds, memory))
-            best[name] = (min(fastest, seconds), max(most, memory))
+            best[name] = min(best.get(name, seconds), seconds)
     return best
 
 
@@ -47,11 +46,12 @@ def main():
         for label, size in SIZES:
             path = pathlib.Path(folder) / f"{size}"
             path.write_bytes(os.urandom(size))
-            best = best_of(commands(program, blocks, path), path)
-            ours = best["blobfs root"][0]
+            found = commands(program, blocks, path)
+            best = best_of(found, path)
+            ours = best["blobfs root"]
             rows = [
-                [name, f"{size / seconds / 1e6:.1f}", f"{seconds / ours:.2f}", f"{memory / 2**20:.1f}"]
-                for name, (seconds, memory) in best.items()
+                [name, f"{size / seconds / 1e6:.1f}", f"{seconds / ours:.2f}", most_memory(found[name], path)]
+                for name, seconds in best.items()
             ]
             print(f"{label}, best of {RUNS}")
             table(["", "MB/s", "ours to it", "MiB"], rows)
