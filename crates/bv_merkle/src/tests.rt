@@ -2,7 +2,10 @@
 
 ghost use Rattle.std.specs.Prelude.{◌<◌};
 
-use crate::{Builder, Digest, Tree, blocks_needed, blocks_needed_of, levels, root};
+use crate::{
+    Builder, Digest, Tree, block_digest, blocks_needed, blocks_needed_of, levels, root,
+    tree_blocks, tree_blocks_of, windows,
+};
 use std::alloc::{AllocError, Global};
 use std::test::Fail;
 
@@ -34,14 +37,20 @@ fn tree_by(alloc: Global, bytes: &[u8], step: usize) -> Result<Tree, AllocError>
     builder.finish(alloc)
 }
 
-// Whether the root of so many bytes begins so, by `root` and by a builder fed in pieces.
+// Whether the root of so many bytes begins so, by `root` and by builders fed in pieces.
 fn has_root(alloc: Global, byte: u8, size: usize, expected: u64) -> Result<bool, AllocError>
     requires { size < 2097154 }
 {
     let bytes = vec![in alloc; byte; size]?;
-    let one = root(&bytes);
-    let tree = tree_by(alloc, &bytes, 4095)?;
-    Ok(head(&one) == expected && head(&tree.root) == expected)
+    let by_bytes = tree_by(alloc, &bytes, 1)?;
+    let by_odd_pieces = tree_by(alloc, &bytes, 4095)?;
+    let by_blocks = tree_by(alloc, &bytes, 8192)?;
+    Ok(
+        head(&root(&bytes)) == expected
+            && head(&by_bytes.root) == expected
+            && head(&by_odd_pieces.root) == expected
+            && head(&by_blocks.root) == expected,
+    )
 }
 
 // By python's hashlib, from the definition; 8,192 bytes of 255 are a vector of Fuchsia's own.
@@ -67,9 +76,56 @@ fn roots_are_those_known_outside(rt: HostRuntime) -> Result<(), Fail> {
     Ok(())
 }
 
-// Whether a blob of this size has so many blocks in version 1, in version 2, and so many levels.
+// How many blocks each level above the data has, from level 1 upward.
+fn level_lengths(alloc: Global, size: usize) -> Result<Vec<usize>, AllocError>
+    requires { size < 2097154 }
+{
+    let bytes = vec![in alloc; 0; size]?;
+    let tree = tree_by(alloc, &bytes, 8192)?;
+    tree.levels.iter().map(|blocks| blocks.len()).collect(alloc)
+}
+
+#[test]
+fn a_tree_has_the_blocks_of_its_levels(rt: HostRuntime) -> Result<(), Fail> {
+    let alloc = rt.alloc();
+    let none: [usize; 0] = [];
+    assert_eq!(rt;
+        level_lengths(alloc, 8192)?.as_slice(),
+        none.as_slice(),
+        "one block"
+    );
+    assert_eq!(rt;
+        level_lengths(alloc, 8193)?.as_slice(),
+        [1].as_slice(),
+        "two blocks"
+    );
+    assert_eq!(rt;
+        level_lengths(alloc, 2097153)?.as_slice(),
+        [2, 1].as_slice(),
+        "two levels"
+    );
+    Ok(())
+}
+
+// By python's hashlib, from the definition.
+#[test]
+fn block_digests_are_those_known_outside(rt: HostRuntime) {
+    let digests = block_digest(1, 8192, &[7; 8192]);
+    assert_eq!(rt; head(&digests), 0x0434_9125_3559_d415, "a block of digests");
+    let data = block_digest(0, 16384, b"hi");
+    assert_eq!(rt; head(&data), 0xf33b_4a01_9752_b08f, "a short block of data");
+}
+
+// Whether a blob of this size has so many blocks in version 1, in version 2, and so many levels,
+// with trees and windows to match.
 fn has_sizes(size: u64, padded: u64, compact: u64, above: u32) -> bool {
-    blocks_needed(size) == padded && blocks_needed_of(2, size) == compact && levels(size) == above
+    let data = size.div_ceil(8192);
+    blocks_needed(size) == padded
+        && blocks_needed_of(2, size) == compact
+        && levels(size) == above
+        && padded.checked_sub(data) == Some(tree_blocks(size))
+        && compact.checked_sub(data) == Some(tree_blocks_of(2, size))
+        && windows(size) == size.div_ceil(65536).max(1)
 }
 
 #[test]
