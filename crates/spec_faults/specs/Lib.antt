@@ -1,0 +1,2 @@
+-- Counts of failed calls.
+pub mod Faults
