@@ -1,0 +1,3 @@
+-- The counts that a volume is made with, and the rows of the superblock.
+pub mod Counts
+pub mod Table
