@@ -1,0 +1,15 @@
+use Rattle.std.proofs.Common.{◌≡◌, ◌+◌, ◌-◌, replicate, Option, Result}
+use Rattle.bv_device.specs.declared.failed.Failed.{Failed}
+use Rattle.bv_device.specs.Told.{Disk}
+use Rattle.bv_device.specs.Plan.{Follows, writes}
+use Rattle.bv_device.proofs.writing.write_copies.Given as goal
+
+-- what follows the rest of the plan from here follows all of it
+abbrev pub invariant-loop-done : goal.invariant-loop-done
+invariant-loop-done g l = record {
+  blocks : g.D.Device.block_count l.dev ≡ g.D.Device.block_count l.fn.dev;
+  calls : g.D.Device.calls_made l.dev ≡ g.D.Device.calls_made l.fn.dev + l.done;
+  faults : g.D.Device.fault_count l.dev ≡ g.D.Device.fault_count l.fn.dev;
+  rest : (r : Result Unit Failed) (new : Option Disk) → Follows r (writes (l.at + l.done) (replicate (l.count - l.done) l.block)) (g.D.Device.told l.dev) new
+      → Follows r (writes l.at (replicate l.count l.block)) (g.D.Device.told l.fn.dev) new;
+}
