@@ -45,7 +45,7 @@ value_of header payloads = record { number = field header 8 8; targets = targets
 read_of : List ℕ → Option ℕ → List ℕ → List (List ℕ) → List (List ℕ) → ℕ → ℕ → ℕ → Option Entry
 read_of header wrong commit front payloads size number meta = result_ok (value_or_fault (tests_of header wrong commit front size number meta) (value_of header payloads))
 
-pub count_of : List (List ℕ) → ℕ
+unfoldable pub count_of : List (List ℕ) → ℕ
 count_of blocks = count_in (block_in blocks 0)
 
 reads_parts : (blocks : List (List ℕ)) (number meta : ℕ) → entry_of blocks number meta

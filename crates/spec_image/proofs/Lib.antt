@@ -14,3 +14,4 @@ pub mod MapLemmas
 pub mod CountLemmas
 pub mod BitLemmas
 pub mod SampleTreeLemmas
+pub mod PlainReplayLemmas

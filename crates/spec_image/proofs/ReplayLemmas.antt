@@ -55,7 +55,7 @@ abbrev pub slot_after : Journal → ℕ → List Entry → ℕ
 slot_after j slot [] = slot
 slot_after j slot (e ∷ es) = slot_after j (slot_past j slot (entry_slots e)) es
 
-onto_first : (room : ℕ) (o : Option Entry) (e : Entry) (rest : Entry → List Entry) → o ≡ Some e → entry_slots e ≤ room → onto o room rest ≡ e ∷ rest e
+pub onto_first : (room : ℕ) (o : Option Entry) (e : Entry) (rest : Entry → List Entry) → o ≡ Some e → entry_slots e ≤ room → onto o room rest ≡ e ∷ rest e
 onto_first room o e rest is fits =
     let t : leb (entry_slots e) room ≡ true = grind (arith, fits) in
     ap (λ (x : Option Entry). onto x room rest) is ∙ ap (λ (b : Bool). cond b (e ∷ rest e) []) t

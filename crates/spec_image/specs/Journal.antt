@@ -1,7 +1,7 @@
 -- The journal of an image: its info block, and the ring of slots behind it (this project's profile).
 --
 -- An image is its list of blocks. Slots count from 0 and follow one another modulo their number.
-use Rattle.std.specs.Prelude.{ℕ, ◌+◌, ◌%◌, List, length, Option}
+use Rattle.std.specs.Prelude.{ℕ, ◌+◌, ◌%◌, List, length, Option, Some}
 use Rattle.spec_disk.specs.Disk.{block}
 use Rattle.spec_record.specs.declared.geometry.Geometry.{Geometry}
 use Rattle.spec_record.specs.declared.info.Info.{Info}
@@ -22,6 +22,10 @@ journal_of g image = record {
   ring = ring_in g image;
   meta = meta_blocks g;
 }
+
+-- the journal of an info that was read
+abbrev pub journal_with : Info → List (List ℕ) → ℕ → Journal
+journal_with i ring meta = record { info = Some i; ring = ring; meta = meta }
 
 -- the slot that is n slots past a slot
 abbrev pub slot_past : Journal → ℕ → ℕ → ℕ

@@ -12,6 +12,7 @@ pub mod Stored
 pub mod Volume
 pub mod Chance
 pub mod Torn
+pub mod Accepted
 pub mod SampleJournals
 pub mod SampleNodes
 pub mod SampleTrees

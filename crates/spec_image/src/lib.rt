@@ -5,3 +5,9 @@
 
 pub mod examples;
 pub mod laws;
+mod plain_replay;
+
+pub use plain_replay::{Accepted, Replayed, replay_of};
+
+#[cfg(test)]
+mod tests;
