@@ -46,7 +46,7 @@ is_Equal Greater h = cc
 pub one_digest : (r x : Digest) → same_digest r x ≡ true → r ≡ x
 one_digest r x h = ap (λ (b : List ℕ). record { 0 = b }) (exact_bytes r.0 x.0 (is_Equal _ h))
 
-or_false : (a b : Bool) → (a || b) ≡ false → (a ≡ false) × (b ≡ false)
+pub or_false : (a b : Bool) → (a || b) ≡ false → (a ≡ false) × (b ≡ false)
 or_false true b h = cc
 or_false false b h = (refl, h)
 
@@ -58,7 +58,7 @@ or_true : {P : Type 0} (a b : Bool) → (a || b) ≡ true → (a ≡ true → P)
 or_true true b h f g = f refl
 or_true false b h f g = g h
 
-if_present : (b : Bool) (o : Option Blob) → is_some (cond b None o) ≡ true → (b ≡ false) × (is_some o ≡ true)
+pub if_present : (b : Bool) (o : Option Blob) → is_some (cond b None o) ≡ true → (b ≡ false) × (is_some o ≡ true)
 if_present true o h = cc
 if_present false o h = (refl, h)
 

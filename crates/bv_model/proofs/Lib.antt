@@ -1,3 +1,8 @@
+pub mod Counting
+pub mod Deeds
+pub mod Durable
+pub mod Lengths
+pub mod Rescans
 pub mod Flush
 pub mod Histories
 pub mod Holding

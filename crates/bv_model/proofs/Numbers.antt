@@ -101,7 +101,7 @@ change_apart g s n w Sync q = sync_apart s n q
 change_apart g s n w ListAll q = refl
 change_apart g s n w Unmount q = unmount_apart s n q
 
-after_apart : (g : Setting) (s t : State) (e : CoreEvent) → Renumbered s t → Renumbered (after g s e) (after g t e)
+pub after_apart : (g : Setting) (s t : State) (e : CoreEvent) → Renumbered s t → Renumbered (after g s e) (after g t e)
 after_apart g s t e same = subst (λ (u : State). Renumbered (after g s e) (after g u e)) (sym same) (change_apart g s t.next e.who e.act e.reply)
 
 pub run_apart : (g : Setting) (s t : State) (es : List CoreEvent) → Renumbered s t → Renumbered (state_after g s es) (state_after g t es)

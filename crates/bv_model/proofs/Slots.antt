@@ -52,12 +52,12 @@ unlike p q f = go (eq_by_cmp place_cmp p q) refl
     go true h = absurd (f (one_place p q h))
     go false h = refl
 
-was_empty : (o : Option Blob) (slot : Option Digest) (n : ℕ) → Chosen (open_choice o slot) (Opened n) → slot ≡ None
+pub was_empty : (o : Option Blob) (slot : Option Digest) (n : ℕ) → Chosen (open_choice o slot) (Opened n) → slot ≡ None
 was_empty None slot n c = cc
 was_empty (Some b) (Some r) n c = cc
 was_empty (Some b) None n c = refl
 
-let_go_slots : (s : State) (r : Digest) → (let_go s r).slots ≡ s.slots
+pub let_go_slots : (s : State) (r : Digest) → (let_go s r).slots ≡ s.slots
 let_go_slots s r = go (among s.leaving r && not (is_held s.slots r))
   where
     go : (b : Bool) → (cond b (record s { leaving = remove_key (is_at (digest_cmp r)) s.leaving; queue = s.queue ++ r ∷ [] }) s).slots ≡ s.slots

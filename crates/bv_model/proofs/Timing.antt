@@ -38,7 +38,7 @@ lt_from : (m n : ℕ) → nat_le m n ≡ false → n < m
 lt_from m n h = grind (arith, nat_tests)
 
 -- whether the first of a list counts
-picks : (b : Bool) (acc : ℕ) (p : CoreEvent × ℕ) (ps : List (CoreEvent × ℕ)) → last_or acc (map (λ x. x.1) (cond b (p ∷ ps) ps)) ≡ last_or (cond b p.1 acc) (map (λ x. x.1) ps)
+pub picks : (b : Bool) (acc : ℕ) (p : CoreEvent × ℕ) (ps : List (CoreEvent × ℕ)) → last_or acc (map (λ x. x.1) (cond b (p ∷ ps) ps)) ≡ last_or (cond b p.1 acc) (map (λ x. x.1) ps)
 picks true acc p ps = refl
 picks false acc p ps = refl
 

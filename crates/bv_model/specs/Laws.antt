@@ -1,9 +1,11 @@
 -- What the rules mean together: each statement is the contract of a function of `laws`.
-use Rattle.std.specs.Prelude.{◌≡◌, ℕ, Bool, true, false, ◌-◌, ◌<◌, ◌≤◌, ◌⊎◌, List, [], ◌∷◌, Some, None, is_some}
+use Rattle.std.specs.Prelude.{◌≡◌, ℕ, Bool, true, false, ◌-◌, ◌<◌, ◌≤◌, ◌⊎◌, cond, List, [], ◌∷◌, ◌++◌, length, Some, None, is_some}
+use Rattle.std.specs.List.{count_by}
 use Rattle.spec_tree.specs.declared.Digest.{Digest}
+use Rattle.spec_tree.specs.Order.{same_digest}
 use Rattle.bv_model.specs.Choice.{choice, is_empty, place_of}
 use Rattle.bv_model.specs.History.{History, opening_map, last_state, room, Legal}
-use Rattle.bv_model.specs.Log.{changed}
+use Rattle.bv_model.specs.Log.{changed, queued}
 use Rattle.bv_model.specs.State.{State, find, held, among, is_held}
 use Rattle.bv_model.specs.Step.{Chosen, Fits, Step, after}
 use Rattle.bv_model.specs.Synced.{log_lengths, synced_by, logged_by}
@@ -74,6 +76,17 @@ abbrev pub HeldRootsStay : Type 0
 HeldRootsStay =
     (h : History) (next : ℕ) (r : Digest) → Legal h next → is_held (last_state h next).slots r ≡ true
     → (is_some (find (last_state h next).map r) ≡ true) × (among (last_state h next).queue r ≡ false)
+
+-- a root that was unlinked and isn't purged is once in the queue or among those that leave, and in
+-- the map
+abbrev pub UnlinkedRootsStay : Type 0
+UnlinkedRootsStay =
+    (h : History) (next : ℕ) (r : Digest) → Legal h next
+    → count_by (same_digest r) ((last_state h next).queue ++ (last_state h next).leaving) ≤ cond (is_some (find (last_state h next).map r)) 1 0
+
+-- so a flush has a purge for each root of the queue
+abbrev pub QueueIsPurged : Type 0
+QueueIsPurged = (h : History) (next : ℕ) → Legal h next → length (queued (last_state h next)) ≡ length (last_state h next).queue
 
 -- the event empties this place: it is unmount, or closes the place
 abbrev pub Empties : Place → Who → Act → Type 0

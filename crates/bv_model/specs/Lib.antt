@@ -6,6 +6,7 @@ pub mod Kept
 pub mod Laws
 pub mod Log
 pub mod Order
+pub mod Rescan
 pub mod Room
 pub mod State
 pub mod Step

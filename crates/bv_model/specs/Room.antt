@@ -1,8 +1,8 @@
 -- Blocks and nodes that blobs take (this project's profile).
-use Rattle.std.specs.Prelude.{ℕ, ◌+◌, ◌-◌, List, drop, nat_le, if◌then◌else◌}
-use Rattle.std.specs.Int.{div_ceil}
+use Rattle.std.specs.Prelude.{ℕ, ◌+◌, ◌-◌, List, drop}
 use Rattle.std.specs.List.{sum_by}
 use Rattle.std.specs.Map.{values_of}
+use Rattle.spec_record.specs.Node.{nodes_for}
 use Rattle.spec_tree.specs.Tree.{need_of}
 use Rattle.spec_tree.specs.declared.Digest.{Digest}
 use Rattle.bv_model.specs.Log.{without}
@@ -30,10 +30,6 @@ taken g s =
 -- the room: block 0 is no blob's, and where more is taken than there is, 0
 abbrev pub room_in : Setting → State → ℕ
 room_in g s = g.blocks - 1 - taken g s
-
--- the nodes of a blob with so many extents: an inode has one of them, a container six
-abbrev pub nodes_for : ℕ → ℕ
-nodes_for extents = if nat_le extents 1 then 1 else (1 + div_ceil (extents - 1) 6)
 
 -- the most nodes that a blob can take: as if each block were an extent
 abbrev pub worst_nodes : ℕ → ℕ → ℕ

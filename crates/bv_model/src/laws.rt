@@ -1,6 +1,6 @@
 //! Laws of the core: what each function here ensures holds of all states and histories.
 
-ghost use Rattle.bv_model.specs.Laws.{OneNewState, OneReply, SomeReply, RoomIsBounded, NumbersAreApart, LogMakesMap, HeldRootsStay, SlotsStay, SyncedIsLogged};
+ghost use Rattle.bv_model.specs.Laws.{OneNewState, OneReply, SomeReply, RoomIsBounded, NumbersAreApart, LogMakesMap, HeldRootsStay, UnlinkedRootsStay, QueueIsPurged, SlotsStay, SyncedIsLogged};
 
 /// With the reply given, an event leads to one new state.
 pub fn a_reply_fixes_the_new_state()
@@ -35,6 +35,16 @@ pub fn the_log_makes_the_map()
 /// An unlinked blob stays in the map while a slot holds it.
 pub fn held_roots_stay_in_the_map()
     ensures { HeldRootsStay }
+{}
+
+/// A root that was unlinked is queued or leaving once, and in the map until it is purged.
+pub fn unlinked_roots_stay_in_the_map()
+    ensures { UnlinkedRootsStay }
+{}
+
+/// A flush purges each root of the queue.
+pub fn each_queued_root_is_purged()
+    ensures { QueueIsPurged }
 {}
 
 /// A slot holds its root until a close or the unmount.

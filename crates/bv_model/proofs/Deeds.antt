@@ -1,0 +1,183 @@
+-- An event by what it does to the slots and to the blobs.
+use Rattle.std.proofs.Common.{◌≡◌, ℕ, Bool, true, false, cond, not, is_some, ◌&&◌, Option, Some, None, [], ◌∷◌, ◌++◌, refl}
+use Rattle.std.specs.BTreeMap.{insert_entry, is_at}
+use Rattle.std.specs.BTreeSet.{insert_key}
+use Rattle.std.specs.Map.{remove_entry}
+use Rattle.std.specs.Set.{remove_key}
+use Rattle.spec_tree.specs.declared.Digest.{Digest}
+use Rattle.spec_tree.specs.Order.{digest_cmp}
+use Rattle.bv_model.proofs.Holding.{or_false, if_present}
+use Rattle.bv_model.proofs.Slots.{was_empty}
+use Rattle.bv_model.specs.Change.{change, begun, admitted, put_done, blob_of, settled, opened, let_go, emptied, closed, unlinked, sync_done, slots_emptied, unmount_done}
+use Rattle.bv_model.specs.Choice.{choice, open_choice, place_of, unless_stopped}
+use Rattle.bv_model.specs.Log.{flushed}
+use Rattle.bv_model.specs.Order.{place_cmp}
+use Rattle.bv_model.specs.Rescan.{deed_of, settle_deed, open_deed, close_deed, unlink_deed, sync_deed, unmount_deed}
+use Rattle.bv_model.specs.State.{State, find, among, held, is_held, is_unlinked, present}
+use Rattle.bv_model.specs.Step.{Chosen}
+use Rattle.bv_model.specs.declared.act.Act.{Act}
+use Rattle.bv_model.specs.declared.act.Act.TheVariants.{Begin, Admit, Put, Settle, Retire, Open, Fetch, Read, Scan, Close, Unlink, Sync, List as ListAll, Unmount}
+use Rattle.bv_model.specs.declared.choice.Choice.TheVariants.{Only}
+use Rattle.bv_model.specs.declared.deed.Deed.{Deed}
+use Rattle.bv_model.specs.declared.deed.Deed.TheVariants.{Nothing, Opens, Closes, Unlinks, Publishes, Purges, Empties}
+use Rattle.bv_model.specs.declared.map_change.MapChange.TheVariants.{Publish}
+use Rattle.bv_model.specs.declared.place.Place.{Place}
+use Rattle.bv_model.specs.declared.reply.Reply.{Reply}
+use Rattle.bv_model.specs.declared.reply.Reply.TheVariants.{Granted, Admitted, Published, Opened, Closed, Unlinked, Synced, Unmounted, NotFound, DeviceFault}
+use Rattle.bv_model.specs.declared.setting.Setting.{Setting}
+use Rattle.bv_model.specs.declared.who.Who.{Who}
+
+-- the state after a deed, in slots, leaving, queue, log and map
+abbrev pub by_deed : Setting → State → Deed → State
+by_deed g s Nothing = s
+by_deed g s (Opens p r) = record s { slots = insert_entry place_cmp s.slots p r }
+by_deed g s (Closes p) = emptied s p (held s.slots p)
+by_deed g s (Unlinks r) = unlinked s r Unlinked
+by_deed g s (Publishes r) = flushed s (Publish r (blob_of g (find s.adds r)) ∷ [])
+by_deed g s Purges = flushed s []
+by_deed g s (Empties true) = flushed (slots_emptied s) []
+by_deed g s (Empties false) = slots_emptied s
+
+-- slots, leaving, queue and map are t's, and so is the log while nothing failed
+pub record Alike (s t : State) : Type 0 where
+  pub slots : s.slots ≡ t.slots
+  pub leaving : s.leaving ≡ t.leaving
+  pub queue : s.queue ≡ t.queue
+  pub map : s.map ≡ t.map
+  pub going : s.stopped ≡ None → (t.stopped ≡ None) × (s.log ≡ t.log)
+
+itself : (s : State) → Alike s s
+itself s = record { slots = refl; leaving = refl; queue = refl; map = refl; going = λ h. (h, refl) }
+
+module _ (g : Setting) (s : State) where
+  begun_alike : (x : Digest) (n : ℕ) (q : Reply) → Alike (begun s x n q) s
+  begun_alike x n Granted = record { slots = refl; leaving = refl; queue = refl; map = refl; going = λ h. (h, refl) }
+  begun_alike x n _ = itself s
+
+  admitted_alike : (x : Digest) (q : Reply) → Alike (admitted s x q) s
+  admitted_alike x Admitted = itself s
+  admitted_alike x _ = record { slots = refl; leaving = refl; queue = refl; map = refl; going = λ h. (h, refl) }
+
+  put_alike : (q : Reply) → Alike (put_done s q) s
+  put_alike (DeviceFault f) = record { slots = refl; leaving = refl; queue = refl; map = refl; going = λ h. cc }
+  put_alike _ = itself s
+
+  settled_alike : (x : Digest) (q : Reply) → Alike (settled s x (blob_of g (find s.adds x)) q) (by_deed g s (settle_deed x q))
+  settled_alike x Published = record { slots = refl; leaving = refl; queue = refl; map = refl; going = λ h. (h, refl) }
+  settled_alike x (DeviceFault f) = record { slots = refl; leaving = refl; queue = refl; map = refl; going = λ h. cc }
+  settled_alike x _ = record { slots = refl; leaving = refl; queue = refl; map = refl; going = λ h. (h, refl) }
+
+  opened_alike : (p : Place) (x : Digest) (q : Reply) → Alike (opened s p x q) (by_deed g s (open_deed p x q))
+  opened_alike p x (Opened n) = record { slots = refl; leaving = refl; queue = refl; map = refl; going = λ h. (h, refl) }
+  opened_alike p x _ = itself s
+
+  closed_alike : (p : Place) (q : Reply) → Alike (closed s p q) (by_deed g s (close_deed p q))
+  closed_alike p Closed = itself (emptied s p (held s.slots p))
+  closed_alike p _ = itself s
+
+  unlinked_alike : (x : Digest) (q : Reply) → Alike (unlinked s x q) (by_deed g s (unlink_deed x q))
+  unlinked_alike x Unlinked = itself (unlinked s x Unlinked)
+  unlinked_alike x _ = itself s
+
+  sync_alike : (q : Reply) → Alike (sync_done s q) (by_deed g s (sync_deed q))
+  sync_alike Synced = record { slots = refl; leaving = refl; queue = refl; map = refl; going = λ h. (h, refl) }
+  sync_alike (DeviceFault f) = record { slots = refl; leaving = refl; queue = refl; map = refl; going = λ h. cc }
+  sync_alike _ = itself s
+
+  unmount_alike : (q : Reply) → Alike (unmount_done (slots_emptied s) q) (by_deed g s (unmount_deed q))
+  unmount_alike Unmounted = record { slots = refl; leaving = refl; queue = refl; map = refl; going = λ h. (h, refl) }
+  unmount_alike (DeviceFault f) = record { slots = refl; leaving = refl; queue = refl; map = refl; going = λ h. cc }
+  unmount_alike _ = itself (slots_emptied s)
+
+  pub alike : (w : Who) (a : Act) (q : Reply) → Alike (change g s w a q) (by_deed g s (deed_of w a q))
+  alike w (Begin r n) q = begun_alike r n q
+  alike w (Admit r) q = admitted_alike r q
+  alike w (Put i) q = put_alike q
+  alike w (Settle r) q = settled_alike r q
+  alike w (Retire r) q = record { slots = refl; leaving = refl; queue = refl; map = refl; going = λ h. (h, refl) }
+  alike w (Open slot r) q = opened_alike (place_of w slot) r q
+  alike w (Fetch slot i) q = itself s
+  alike w (Read slot off len) q = itself s
+  alike w (Scan slot) q = itself s
+  alike w (Close slot) q = closed_alike (place_of w slot) q
+  alike w (Unlink r) q = unlinked_alike r q
+  alike w Sync q = sync_alike q
+  alike w ListAll q = itself s
+  alike w Unmount q = unmount_alike q
+
+  let_go_stopped : (r : Digest) → (let_go s r).stopped ≡ s.stopped
+  let_go_stopped r = go (among s.leaving r && not (is_held s.slots r))
+    where
+      go : (b : Bool) → (cond b (record s { leaving = remove_key (is_at (digest_cmp r)) s.leaving; queue = s.queue ++ r ∷ [] }) s).stopped ≡ s.stopped
+      go true = refl
+      go false = refl
+
+  unlinked_stopped : (r : Digest) → (unlinked s r Unlinked).stopped ≡ s.stopped
+  unlinked_stopped r = go (is_held s.slots r)
+    where
+      go : (b : Bool) → (cond b (record s { leaving = insert_key digest_cmp s.leaving r }) (record s { queue = s.queue ++ r ∷ [] })).stopped ≡ s.stopped
+      go true = refl
+      go false = refl
+
+emptied_stopped : (s : State) (p : Place) (o : Option Digest) → (emptied s p o).stopped ≡ s.stopped
+emptied_stopped s p (Some r) = let_go_stopped (record { blocks = 0; nodes = 0; version = 0 }) (record s { slots = remove_entry (is_at (place_cmp p)) s.slots }) r
+emptied_stopped s p None = refl
+
+pub deed_stopped : (g : Setting) (s : State) (d : Deed) → (by_deed g s d).stopped ≡ s.stopped
+deed_stopped g s Nothing = refl
+deed_stopped g s (Opens p r) = refl
+deed_stopped g s (Closes p) = emptied_stopped s p (held s.slots p)
+deed_stopped g s (Unlinks r) = unlinked_stopped g s r
+deed_stopped g s (Publishes r) = refl
+deed_stopped g s Purges = refl
+deed_stopped g s (Empties true) = refl
+deed_stopped g s (Empties false) = refl
+
+-- what holds before a deed that may come
+abbrev pub Ready : State → Deed → Type 0
+Ready s (Opens p r) = held s.slots p ≡ None
+Ready s (Unlinks r) = (is_some (find s.map r) ≡ true) × (among s.leaving r ≡ false) × (among s.queue r ≡ false)
+Ready s _ = Unit {0}
+
+present_means : (s : State) (r : Digest) → is_some (present s r) ≡ true → Ready s (Unlinks r)
+present_means s r h =
+    let p = if_present (is_unlinked s r) (find s.map r) h in let u = or_false (among s.leaving r) (among s.queue r) p.0 in (p.1, u.0, u.1)
+
+was_unlinked : (o : Option ℕ) (b : Bool) → Chosen (unless_stopped o (cond b (Only Unlinked) (Only NotFound))) Unlinked → b ≡ true
+was_unlinked (Some f) b c = cc
+was_unlinked None true c = refl
+was_unlinked None false c = cc
+
+module _ (s : State) where
+  settle_ready : (r : Digest) (q : Reply) → Ready s (settle_deed r q)
+  settle_ready r Published = tt
+  settle_ready r _ = tt
+
+  open_ready : (p : Place) (r : Digest) (q : Reply) → Chosen (open_choice (present s r) (held s.slots p)) q → Ready s (open_deed p r q)
+  open_ready p r (Opened n) c = was_empty (present s r) (held s.slots p) n c
+  open_ready p r _ c = tt
+
+  close_ready : (p : Place) (q : Reply) → Ready s (close_deed p q)
+  close_ready p Closed = tt
+  close_ready p _ = tt
+
+  unlink_ready : (r : Digest) (q : Reply) → Chosen (unless_stopped s.stopped (cond (is_some (present s r)) (Only Unlinked) (Only NotFound))) q → Ready s (unlink_deed r q)
+  unlink_ready r Unlinked c = present_means s r (was_unlinked s.stopped (is_some (present s r)) c)
+  unlink_ready r _ c = tt
+
+  sync_ready : (q : Reply) → Ready s (sync_deed q)
+  sync_ready Synced = tt
+  sync_ready _ = tt
+
+  unmount_ready : (q : Reply) → Ready s (unmount_deed q)
+  unmount_ready Unmounted = tt
+  unmount_ready _ = tt
+
+pub ready : (g : Setting) (s : State) (w : Who) (a : Act) (q : Reply) → Chosen (choice g s w a) q → Ready s (deed_of w a q)
+ready g s w (Settle r) q c = settle_ready s r q
+ready g s w (Open slot r) q c = open_ready s (place_of w slot) r q c
+ready g s w (Close slot) q c = close_ready s (place_of w slot) q
+ready g s w (Unlink r) q c = unlink_ready s r q c
+ready g s w Sync q c = sync_ready s q
+ready g s w Unmount q c = unmount_ready s q
+ready g s w _ q c = tt

@@ -1,0 +1,10 @@
+use Rattle.std.proofs.Common.{◌≡◌, ◌≤◌, ℕ}
+use Rattle.bv_model.specs.History.{Legal}
+use Rattle.bv_model.specs.Rescan.{state_at, standing_in}
+use Rattle.bv_model.proofs.rescan.standing_after.Given as goal
+
+abbrev pub invariant-loop-i : goal.invariant-loop-i
+invariant-loop-i l = record {
+  standing : (next : ℕ) → Legal l.h next → l.standing ≡ standing_in (state_at l.h next l.i) l.root;
+  bound : l.standing.holders ≤ l.i;
+}

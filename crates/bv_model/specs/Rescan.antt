@@ -1,0 +1,137 @@
+-- What one event does at a place, to a root, and to how many there are: the steps of the calls that
+-- go over a history without memory, each proved to be the core's own.
+use Rattle.std.specs.Prelude.{ℕ, Bool, true, false, cond, not, ◌+◌, ◌-◌, ◌==◌, ◌&&◌, ◌||◌, Option, Some, None, take}
+use Rattle.std.specs.Ordering.{eq_by_cmp}
+use Rattle.spec_tree.specs.declared.Digest.{Digest}
+use Rattle.spec_tree.specs.Order.{same_digest}
+use Rattle.bv_model.specs.Choice.{place_of}
+use Rattle.bv_model.specs.History.{History, setting_of, opening_map, first_state, Legal}
+use Rattle.bv_model.specs.Order.{place_cmp}
+use Rattle.bv_model.specs.State.{State, among, held, holders}
+use Rattle.bv_model.specs.Step.{state_after}
+use Rattle.bv_model.specs.declared.act.Act.{Act}
+use Rattle.bv_model.specs.declared.act.Act.TheVariants.{Settle, Open, Close, Unlink, Sync, Unmount}
+use Rattle.bv_model.specs.declared.deed.Deed.{Deed}
+use Rattle.bv_model.specs.declared.deed.Deed.TheVariants.{Nothing, Opens, Closes, Unlinks, Publishes, Purges, Empties}
+use Rattle.bv_model.specs.declared.place.Place.{Place}
+use Rattle.bv_model.specs.declared.reply.Reply.{Reply}
+use Rattle.bv_model.specs.declared.reply.Reply.TheVariants.{Published, Opened, Closed, Unlinked, Synced, Unmounted}
+use Rattle.bv_model.specs.declared.rescan.Lengths.{Lengths}
+use Rattle.bv_model.specs.declared.rescan.Standing.{Standing}
+use Rattle.bv_model.specs.declared.who.Who.{Who}
+
+-- the state after the first so many events of a history
+abbrev pub state_at : History → ℕ → ℕ → State
+state_at h next count = state_after (setting_of h) (first_state (opening_map h) next) (take count h.events)
+
+-- in a legal history, this holds after the first so many events
+abbrev pub After : History → ℕ → (State → Type 0) → Type 0
+After h count Holds = (next : ℕ) → Legal h next → Holds (state_at h next count)
+
+-- ---- what an event does
+
+abbrev pub settle_deed : Digest → Reply → Deed
+settle_deed r Published = Publishes r
+settle_deed r _ = Nothing
+
+abbrev pub open_deed : Place → Digest → Reply → Deed
+open_deed p r (Opened n) = Opens p r
+open_deed p r _ = Nothing
+
+abbrev pub close_deed : Place → Reply → Deed
+close_deed p Closed = Closes p
+close_deed p _ = Nothing
+
+abbrev pub unlink_deed : Digest → Reply → Deed
+unlink_deed r Unlinked = Unlinks r
+unlink_deed r _ = Nothing
+
+abbrev pub sync_deed : Reply → Deed
+sync_deed Synced = Purges
+sync_deed _ = Nothing
+
+abbrev pub unmount_deed : Reply → Deed
+unmount_deed Unmounted = Empties true
+unmount_deed _ = Empties false
+
+abbrev pub deed_of : Who → Act → Reply → Deed
+deed_of who (Settle r) reply = settle_deed r reply
+deed_of who (Open slot r) reply = open_deed (place_of who slot) r reply
+deed_of who (Close slot) reply = close_deed (place_of who slot) reply
+deed_of who (Unlink r) reply = unlink_deed r reply
+deed_of who Sync reply = sync_deed reply
+deed_of who Unmount reply = unmount_deed reply
+deed_of who _ reply = Nothing
+
+-- ---- what a place holds
+
+-- what a place holds after a deed
+abbrev pub held_next : Place → Option Digest → Deed → Option Digest
+held_next p was (Opens q r) = cond (eq_by_cmp place_cmp p q) (Some r) was
+held_next p was (Closes q) = cond (eq_by_cmp place_cmp p q) None was
+held_next p was (Empties purges) = None
+held_next p was _ = was
+
+-- ---- how a root stands
+
+-- how many slots hold a root, and whether it is leaving
+abbrev pub standing_in : State → Digest → Standing
+standing_in s r = record { holders = holders s.slots r; leaving = among s.leaving r }
+
+-- what nothing holds
+abbrev pub nowhere : Standing
+nowhere = record { holders = 0; leaving = false }
+
+-- one slot holds it no longer: with the last it goes
+abbrev pub less_one : Standing → Standing
+less_one was = record { holders = was.holders - 1; leaving = was.leaving && not (was.holders - 1 == 0) }
+
+-- whether a place held this root
+abbrev pub is_root : Digest → Option Digest → Bool
+is_root r None = false
+is_root r (Some x) = same_digest r x
+
+-- how a root stands after a deed, before which this was held at the place that is closed
+abbrev pub standing_next : Digest → Standing → Option Digest → Deed → Standing
+standing_next r was at (Opens p x) = cond (same_digest r x) (record was { holders = was.holders + 1 }) was
+standing_next r was at (Closes p) = cond (is_root r at) (less_one was) was
+standing_next r was at (Unlinks x) = cond (same_digest r x) (record was { leaving = was.leaving || not (was.holders == 0) }) was
+standing_next r was at (Empties purges) = nowhere
+standing_next r was at _ = was
+
+-- what is held at the place that a deed closes
+abbrev pub closed_root : State → Deed → Option Digest
+closed_root s (Closes p) = held s.slots p
+closed_root s _ = None
+
+-- how the root stands that a deed unlinks, or closes a place of
+abbrev pub standing_of_root : State → Option Digest → Standing
+standing_of_root s None = nowhere
+standing_of_root s (Some r) = standing_in s r
+
+abbrev pub standing_for : State → Deed → Standing
+standing_for s (Closes p) = standing_of_root s (held s.slots p)
+standing_for s (Unlinks r) = standing_in s r
+standing_for s _ = nowhere
+
+-- ---- how many
+
+-- all of them together
+abbrev pub in_all : Lengths → ℕ
+in_all t = t.log + t.leaving + t.queue
+
+-- the queue is purged
+abbrev pub all_purged : Lengths → Lengths
+all_purged t = record t { log = t.log + t.queue; queue = 0 }
+
+-- how many there are after a deed, before which the root that it closes or unlinks stood so
+abbrev pub lengths_next : Lengths → Standing → Deed → Lengths
+lengths_next t root (Closes p) =
+    cond (root.leaving && (root.holders - 1 == 0)) (record t { leaving = t.leaving - 1; queue = t.queue + 1 }) t
+lengths_next t root (Unlinks r) =
+    cond (root.holders == 0) (record t { queue = t.queue + 1 }) (record t { leaving = t.leaving + 1 })
+lengths_next t root (Publishes r) = record (all_purged t) { log = t.log + t.queue + 1 }
+lengths_next t root Purges = all_purged t
+lengths_next t root (Empties purges) =
+    let all : Lengths = record t { leaving = 0; queue = t.queue + t.leaving } in cond purges (all_purged all) all
+lengths_next t root _ = t

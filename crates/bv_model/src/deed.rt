@@ -1,0 +1,105 @@
+//! What an event does to the slots and to the blobs.
+
+ghost use Rattle.std.specs.Prelude.{◌≡◌};
+ghost use Rattle.bv_model.specs.Rescan as C;
+
+use crate::act::Act;
+use crate::choosing::place_of;
+use crate::event::CoreEvent;
+use crate::place::Place;
+use crate::reply::Reply;
+use spec_tree::Digest;
+
+/// What an event does, by its act and reply.
+#[derive(Clone, Copy)]
+pub(crate) enum Deed {
+    Nothing,
+    /// The place holds the root.
+    Opens { place: Place, root: Digest },
+    /// The place holds nothing.
+    Closes { place: Place },
+    /// The root leaves, or is queued.
+    Unlinks { root: Digest },
+    /// The queue is purged, and the root's add is published.
+    Publishes { root: Digest },
+    /// The queue is purged.
+    Purges,
+    /// No place holds anything, and with `purges` the queue is purged.
+    Empties { purges: bool },
+}
+
+fn settled(root: Digest, reply: Reply) -> Deed
+    ensures { result ≡ C.settle_deed root reply }
+{
+    match reply {
+        Reply::Published => Deed::Publishes { root },
+        _ => Deed::Nothing,
+    }
+}
+
+fn opened(place: Place, root: Digest, reply: Reply) -> Deed
+    ensures { result ≡ C.open_deed place root reply }
+{
+    match reply {
+        Reply::Opened { .. } => Deed::Opens { place, root },
+        _ => Deed::Nothing,
+    }
+}
+
+fn closed(place: Place, reply: Reply) -> Deed
+    ensures { result ≡ C.close_deed place reply }
+{
+    match reply {
+        Reply::Closed => Deed::Closes { place },
+        _ => Deed::Nothing,
+    }
+}
+
+fn unlinked(root: Digest, reply: Reply) -> Deed
+    ensures { result ≡ C.unlink_deed root reply }
+{
+    match reply {
+        Reply::Unlinked => Deed::Unlinks { root },
+        _ => Deed::Nothing,
+    }
+}
+
+fn synced(reply: Reply) -> Deed
+    ensures { result ≡ C.sync_deed reply }
+{
+    match reply {
+        Reply::Synced => Deed::Purges,
+        _ => Deed::Nothing,
+    }
+}
+
+fn unmounted(reply: Reply) -> Deed
+    ensures { result ≡ C.unmount_deed reply }
+{
+    match reply {
+        Reply::Unmounted => Deed::Empties { purges: true },
+        _ => Deed::Empties { purges: false },
+    }
+}
+
+/// What an event does.
+pub(crate) fn deed_of(event: &CoreEvent) -> Deed
+    ensures { result ≡ C.deed_of event.now.who event.now.act event.now.reply }
+{
+    match event.act {
+        Act::Settle { root } => settled(root, event.reply),
+        Act::Open { slot, root } => opened(place_of(event.who, slot), root, event.reply),
+        Act::Close { slot } => closed(place_of(event.who, slot), event.reply),
+        Act::Unlink { root } => unlinked(root, event.reply),
+        Act::Sync => synced(event.reply),
+        Act::Unmount => unmounted(event.reply),
+        Act::Begin { .. }
+        | Act::Admit { .. }
+        | Act::Put { .. }
+        | Act::Retire { .. }
+        | Act::Fetch { .. }
+        | Act::Read { .. }
+        | Act::Scan { .. }
+        | Act::List => Deed::Nothing,
+    }
+}
