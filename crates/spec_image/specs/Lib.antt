@@ -3,6 +3,7 @@ pub mod Journal
 pub mod Replay
 pub mod After
 pub mod Chain
+pub mod Empty
 pub mod Metadata
 pub mod Blobs
 pub mod WellFormed
