@@ -1,0 +1,2 @@
+-- What two blobs of one name show.
+pub mod Exhibit
