@@ -10,6 +10,7 @@ pub mod SampleNodeLemmas
 pub mod VolumeLemmas
 pub mod ChainLemmas
 pub mod WellFormedLemmas
+pub mod EmptyLemmas
 pub mod MapLemmas
 pub mod CountLemmas
 pub mod BitLemmas

@@ -1,6 +1,6 @@
 //! Laws of the definitions: what each function here ensures holds of all values.
 
-ghost use Rattle.std.specs.Prelude.{◌≡◌, ◌<◌, ◌≤◌, ℕ, List, true, find, option_map};
+ghost use Rattle.std.specs.Prelude.{◌≡◌, ◌<◌, ◌≤◌, ℕ, List, [], true, find, Some, IsSomeAnd, option_map};
 ghost use Rattle.std.specs.BTreeMap.{is_at};
 ghost use Rattle.std.specs.List.Sorted.{IsStrictlySortedBy};
 ghost use Rattle.std.specs.Map.{lookup, keys_of};
@@ -10,6 +10,7 @@ ghost use Rattle.spec_tree.specs.Order.{digest_cmp, same_digest};
 ghost use Rattle.spec_record.specs.declared.geometry.Geometry.{Geometry};
 ghost use Rattle.spec_record.specs.declared.info.Info.{Info};
 ghost use Rattle.spec_record.specs.Entry.{Entry};
+ghost use Rattle.spec_record.specs.Geometry.{IsGeometry};
 ghost use Rattle.spec_image.specs.After.{after};
 ghost use Rattle.spec_image.specs.Journal.{Journal, journal_of};
 ghost use Rattle.spec_image.specs.Replay.{IsReplay, replay};
@@ -22,7 +23,8 @@ ghost use Rattle.spec_image.specs.Metadata.{Metadata};
 ghost use Rattle.spec_image.specs.Torn.{TornAdd};
 ghost use Rattle.spec_image.specs.WellFormed.{is_well_formed};
 ghost use Rattle.spec_image.specs.WellFormedParts.{WellFormed, CountsUse};
-ghost use Rattle.spec_image.specs.Volume.{HasGeometry, blobs, IsWhole, IsSound};
+ghost use Rattle.spec_image.specs.Empty.{BeginsEmpty};
+ghost use Rattle.spec_image.specs.Volume.{HasGeometry, metadata_of, blobs, IsWhole, IsSound};
 
 /// A journal has one longest list of entries, and `replay` is that list.
 pub fn a_journal_has_one_replay()
@@ -75,4 +77,13 @@ pub fn a_map_has_its_blobs_in_order()
     ensures value { (bs : List BlobRecord) (root : Digest)
         → lookup (is_at (digest_cmp root)) (blob_map bs)
         ≡ option_map value_of (find (λ b. same_digest root b.root) bs) }
+{}
+
+/// An image that begins with the blocks of a volume without a blob is such a volume: its metadata
+/// has this geometry, and there is no blob in it.
+pub fn a_volume_begins_empty()
+    ensures made { (g : Geometry) (j : List (List ℕ)) → IsGeometry g → BeginsEmpty g j
+        → IsSomeAnd (metadata_of j) (λ m. m.super.geometry ≡ g) }
+    ensures empty { (g : Geometry) (j : List (List ℕ)) → IsGeometry g → BeginsEmpty g j
+        → blobs j ≡ Some [] }
 {}
