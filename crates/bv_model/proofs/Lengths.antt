@@ -51,7 +51,7 @@ times-append r xs ys = sum_by-append (λ x. cond (same_digest r x) 1 0) xs ys
 times-push : (r x : Digest) (xs : List Digest) → times r (xs ++ x ∷ []) ≡ times r xs + cond (same_digest r x) 1 0
 times-push r x xs = omega (arith, times-append r xs (x ∷ []), count-cons (same_digest r) x [])
 
-at_most_one : (b : Bool) → cond b 1 0 ≤ 1
+pub at_most_one : (b : Bool) → cond b 1 0 ≤ 1
 at_most_one true = omega arith
 at_most_one false = omega arith
 
@@ -78,20 +78,20 @@ once_unlinked s x k a = go (is_held s.slots x)
     go true r = omega (arith, one r (same_digest r x) refl, count-insert_key-le (same_digest r) digest_cmp s.leaving x)
     go false r = omega (arith, one r (same_digest r x) refl, times-push r x s.queue)
 
+pub some_times : (r : Digest) (xs : List Digest) → among xs r ≡ true → 1 ≤ times r xs
+some_times r [] h = cc
+some_times r (x ∷ xs) h = let rest = some_times r xs in rw (count-cons (same_digest r) x xs) (pick (same_digest r x) rest h)
+  where
+    pick : (b : Bool) → (among xs r ≡ true → 1 ≤ times r xs) → (b || among xs r) ≡ true → 1 ≤ cond b 1 0 + times r xs
+    pick true f h = omega arith
+    pick false f h = omega (arith, f h)
+
 -- what leaves is in the map once the queue is purged
 once_purged : (s : State) (r : Digest) → Once s → times r s.leaving ≤ most (find (changed s.map (queued s)) r)
 once_purged s r k = go (among s.queue r) refl
   where
-    some : (xs : List Digest) → among xs r ≡ true → 1 ≤ times r xs
-    some [] h = cc
-    some (x ∷ xs) h = let rest = some xs in rw (count-cons (same_digest r) x xs) (pick (same_digest r x) rest h)
-      where
-        pick : (b : Bool) → (among xs r ≡ true → 1 ≤ times r xs) → (b || among xs r) ≡ true → 1 ≤ cond b 1 0 + times r xs
-        pick true f h = omega arith
-        pick false f h = omega (arith, f h)
-
     go : (b : Bool) → among s.queue r ≡ b → times r s.leaving ≤ most (find (changed s.map (queued s)) r)
-    go true e = omega (arith, k r, some s.queue e, at_most_one (is_some (find s.map r)))
+    go true e = omega (arith, k r, some_times r s.queue e, at_most_one (is_some (find s.map r)))
     go false e = rw (find-purges s.map s.map s.queue r e) (omega (arith, k r))
 
 once_flushed : (s : State) → Once s → Once (flushed s [])
@@ -105,7 +105,7 @@ once_published s x blob k r =
     more true o h = omega (arith, h, at_most_one (is_some o))
     more false o h = omega (arith, h)
 
-once_slots_emptied : (s : State) → Once s → Once (slots_emptied s)
+pub once_slots_emptied : (s : State) → Once s → Once (slots_emptied s)
 once_slots_emptied s k r = omega (arith, k r, times-append r s.queue s.leaving)
 
 once_by_deed : (g : Setting) (s : State) (d : Deed) → Once s → Ready s d → Once (by_deed g s d)
@@ -136,24 +136,25 @@ once_at h next i legal = once_run (setting_of h) (first_state (opening_map h) ne
 pub once_last : (h : History) (next : ℕ) → Legal h next → Once (last_state h next)
 once_last h next legal = once_run (setting_of h) (first_state (opening_map h) next) h.events (once_first (opening_map h) next) legal.steps
 
+-- where each root has a blob to purge, so has each one past the first
+pub times-head : (x : Digest) (rs : List Digest) → times x (x ∷ rs) ≡ 1 + times x rs
+times-head x rs = count-cons (same_digest x) x rs ∙ ap (λ (b : Bool). cond b 1 0 + times x rs) (same_self x)
+
+pub once_left : (m : List (Digest × Blob)) (x : Digest) (rs : List Digest) → ((r : Digest) → times r (x ∷ rs) ≤ most (find m r)) → (r : Digest) → times r rs ≤ most (find (without m x) r)
+once_left m x rs k r = pick (same_digest r x) refl
+  where
+    pick : (b : Bool) → same_digest r x ≡ b → times r rs ≤ most (find (without m x) r)
+    pick true e = rw (one_digest r x e) (omega (arith, times-head x rs, k x, at_most_one (is_some (find m x))))
+    pick false e = rw (lookup-remove_other digest_total m x r ((eq_by_cmp_equiv digest_total).symm x r ∙ e)) (omega (arith, k r, count-cons (same_digest r) x rs))
+
 -- each root of the queue has its blob to purge
 pub length-purges : (m : List (Digest × Blob)) (rs : List Digest) → ((r : Digest) → times r rs ≤ most (find m r)) → length (purges m rs) ≡ length rs
 length-purges m [] k = refl
 length-purges m (x ∷ rs) k = let tail = length-purges (without m x) rs in go (find m x) refl tail
   where
-    here : times x (x ∷ rs) ≡ 1 + times x rs
-    here = count-cons (same_digest x) x rs ∙ ap (λ (b : Bool). cond b 1 0 + times x rs) (same_self x)
-
-    left : (r : Digest) → times r rs ≤ most (find (without m x) r)
-    left r = pick (same_digest r x) refl
-      where
-        pick : (b : Bool) → same_digest r x ≡ b → times r rs ≤ most (find (without m x) r)
-        pick true e = rw (one_digest r x e) (omega (arith, here, k x, at_most_one (is_some (find m x))))
-        pick false e = rw (lookup-remove_other digest_total m x r ((eq_by_cmp_equiv digest_total).symm x r ∙ e)) (omega (arith, k r, count-cons (same_digest r) x rs))
-
     go : (o : Option Blob) → find m x ≡ o → (((r : Digest) → times r rs ≤ most (find (without m x) r)) → length (purges (without m x) rs) ≡ length rs) → length (purge_of o x ++ purges (without m x) rs) ≡ length (x ∷ rs)
-    go None e f = absurd (omega (arith, here, k x, ap most e))
-    go (Some b) e f = omega (arith, f left)
+    go None e f = absurd (omega (arith, times-head x rs, k x, ap most e))
+    go (Some b) e f = omega (arith, f (once_left m x rs k))
 
 -- ---- how many
 

@@ -1,3 +1,4 @@
+pub mod Adds
 pub mod Counting
 pub mod Deeds
 pub mod Durable
@@ -6,10 +7,14 @@ pub mod Rescans
 pub mod Flush
 pub mod Histories
 pub mod Holding
+pub mod Knowing
 pub mod Logs
 pub mod EntryLemmas
 pub mod Numbers
+pub mod Openings
 pub mod Replies
+pub mod Rooms
 pub mod Slots
 pub mod Sums
+pub mod Takings
 pub mod Timing

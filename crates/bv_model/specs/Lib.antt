@@ -12,3 +12,4 @@ pub mod State
 pub mod Step
 pub mod Synced
 pub mod Tables
+pub mod Taking

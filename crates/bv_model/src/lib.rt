@@ -2,6 +2,7 @@
 #![tactic(auto)]
 
 pub mod act;
+mod adding;
 mod changing;
 pub mod choice;
 pub mod choosing;
@@ -17,6 +18,7 @@ pub mod place;
 mod purging;
 pub mod reply;
 pub mod rescan;
+pub mod room;
 pub mod setting;
 pub mod step;
 pub mod who;
@@ -32,6 +34,7 @@ pub use need::worst_nodes;
 pub use place::Place;
 pub use reply::Reply;
 pub use rescan::synced_by;
+pub use room::room_of;
 pub use setting::Setting;
 pub use spec_tree::Blob;
 pub use step::step_of;

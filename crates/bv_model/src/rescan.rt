@@ -53,7 +53,7 @@ fn held_next(place: Place, was: Option<Digest>, deed: Deed) -> Option<Digest>
 }
 
 /// What a place holds after the first `count` events.
-fn held_after(h: &History, count: usize, place: Place) -> Option<Digest>
+pub(crate) fn held_after(h: &History, count: usize, place: Place) -> Option<Digest>
     requires { count ≤ length h.now.events }
     ensures { C.After h.now count (λ s. result ≡ S.held s.slots place) }
 {
@@ -150,7 +150,7 @@ fn standing_after(h: &History, count: usize, root: Digest) -> Standing
 }
 
 /// How the root stands that a deed unlinks, or closes a place of.
-fn standing_for(h: &History, count: usize, deed: Deed) -> Standing
+pub(crate) fn standing_for(h: &History, count: usize, deed: Deed) -> Standing
     requires { count ≤ length h.now.events }
     ensures { C.After h.now count (λ s. result ≡ C.standing_for s deed) }
 {

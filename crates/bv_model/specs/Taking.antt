@@ -1,0 +1,143 @@
+-- What one event does to the blocks that are taken: the steps of the call that goes over a history
+-- for its room without memory, each proved to be the core's own.
+use Rattle.std.specs.Prelude.{◌≡◌, ℕ, Bool, true, false, cond, ◌+◌, ◌-◌, ◌==◌, ◌&&◌, Option, Some, None}
+use Rattle.std.specs.Option.{option_map, unwrap_or}
+use Rattle.spec_tree.specs.Tree.{need_of}
+use Rattle.spec_tree.specs.declared.Digest.{Digest}
+use Rattle.spec_tree.specs.declared.blob.Blob.{Blob}
+use Rattle.spec_tree.specs.Order.{same_digest}
+use Rattle.bv_model.specs.Rescan.{deed_of}
+use Rattle.bv_model.specs.Room.{blob_need}
+use Rattle.bv_model.specs.State.{State, find, held}
+use Rattle.bv_model.specs.declared.act.Act.{Act}
+use Rattle.bv_model.specs.declared.act.Act.TheVariants.{Begin, Admit, Settle, Retire, Sync, Unmount}
+use Rattle.bv_model.specs.declared.adding.Adding.{Adding}
+use Rattle.bv_model.specs.declared.adding.Adding.TheVariants.{Nothing, Begins, Ends, Publishes}
+use Rattle.bv_model.specs.declared.deed.Deed.{Deed}
+use Rattle.bv_model.specs.declared.deed.Deed.TheVariants as deeds
+use Rattle.bv_model.specs.declared.reply.Reply.{Reply}
+use Rattle.bv_model.specs.declared.reply.Reply.TheVariants.{Granted, Admitted, Published, DeviceFault}
+use Rattle.bv_model.specs.declared.rescan.Standing.{Standing}
+use Rattle.bv_model.specs.declared.room.Known.{Known}
+use Rattle.bv_model.specs.declared.room.Taken.{Taken}
+use Rattle.bv_model.specs.declared.setting.Setting.{Setting}
+use Rattle.bv_model.specs.declared.who.Who.{Who}
+
+-- ---- what an event does to the adds
+
+abbrev pub begin_adding : Digest → ℕ → Reply → Adding
+begin_adding r n Granted = Begins r n
+begin_adding r n _ = Nothing
+
+abbrev pub admit_adding : Digest → Reply → Adding
+admit_adding r Admitted = Nothing
+admit_adding r _ = Ends r
+
+abbrev pub settle_adding : Digest → Reply → Adding
+settle_adding r Published = Publishes r
+settle_adding r _ = Ends r
+
+abbrev pub adding_of : Act → Reply → Adding
+adding_of (Begin r n) reply = begin_adding r n reply
+adding_of (Admit r) reply = admit_adding r reply
+adding_of (Settle r) reply = settle_adding r reply
+adding_of (Retire r) reply = Ends r
+adding_of _ reply = Nothing
+
+-- ---- what is known of a root
+
+-- the root's add ended, if it is this one
+abbrev pub add_ended : Digest → Known → Digest → Known
+add_ended r was x = cond (same_digest r x) (record was { adding = false }) was
+
+-- what is known of a root after an event, where new blobs get this version
+abbrev pub known_next : Digest → Known → ℕ → Adding → Known
+known_next r was version (Begins x n) =
+    cond (same_digest r x) (record { blob = record { size = n; version = version }; adding = true }) was
+known_next r was version (Ends x) = add_ended r was x
+known_next r was version (Publishes x) = add_ended r was x
+known_next r was version Nothing = was
+
+-- it is known whether an add of the root is under way, and which blob it or the map has there
+pub record Knows (g : Setting) (s : State) (r : Digest) (k : Known) : Type 0 where
+  pub adds : find s.adds r ≡ cond k.adding (Some k.blob.size) None
+  pub version : k.adding ≡ true → k.blob.version ≡ g.version
+  pub map : (blob : Blob) → find s.map r ≡ Some blob → k.blob ≡ blob
+
+-- ---- the blocks that an event is about
+
+-- the blocks of a root's add, or none
+abbrev pub add_need : Setting → State → Digest → ℕ
+add_need g s r = unwrap_or (option_map (need_of g.version) (find s.adds r)) 0
+
+-- these are the blocks of a root's blob in the map, if it has one
+abbrev pub NeedsAt : State → Digest → ℕ → Type 0
+NeedsAt s r need = (blob : Blob) → find s.map r ≡ Some blob → need ≡ blob_need blob
+
+-- these are the blocks of the blob that a deed unlinks, or closes a place of
+abbrev pub NeedsFor : State → Deed → ℕ → Type 0
+NeedsFor s (deeds.Closes p) need = (r : Digest) → held s.slots p ≡ Some r → NeedsAt s r need
+NeedsFor s (deeds.Unlinks r) need = NeedsAt s r need
+NeedsFor s _ need = Unit {0}
+
+-- these are the blocks that an event is about, by what it does to the adds, or else by its deed
+abbrev pub NeedsBy : Setting → State → Adding → Deed → ℕ → Type 0
+NeedsBy g s (Begins r n) deed need = need ≡ need_of g.version n
+NeedsBy g s (Ends r) deed need = need ≡ add_need g s r
+NeedsBy g s _ deed need = NeedsFor s deed need
+
+abbrev pub NeedsOf : Setting → State → Who → Act → Reply → ℕ → Type 0
+NeedsOf g s who act reply need = NeedsBy g s (adding_of act reply) (deed_of who act reply) need
+
+-- ---- how many blocks
+
+-- all of them together
+abbrev pub in_all : Taken → ℕ
+in_all t = t.all + t.purged + t.queued + t.leaving
+
+-- all purges are durable, those of the queue among them
+abbrev pub all_freed : Taken → Taken
+all_freed t = record t { all = t.all - (t.purged + t.queued); purged = 0; queued = 0 }
+
+-- what leaves is queued
+abbrev pub all_let_go : Taken → Taken
+all_let_go t = record t { queued = t.queued + t.leaving; leaving = 0 }
+
+-- the blocks after a deed, before which the root that it closes or unlinks stood so, with a blob of
+-- so many blocks
+abbrev pub by_deed : Taken → Standing → ℕ → Deed → Taken
+by_deed t root need (deeds.Closes p) =
+    cond (root.leaving && (root.holders - 1 == 0)) (record t { leaving = t.leaving - need; queued = t.queued + need }) t
+by_deed t root need (deeds.Unlinks r) =
+    cond (root.holders == 0) (record t { queued = t.queued + need }) (record t { leaving = t.leaving + need })
+by_deed t root need (deeds.Publishes r) = record t { purged = t.purged + t.queued; queued = 0 }
+by_deed t root need deeds.Purges = all_freed t
+by_deed t root need (deeds.Empties purges) = cond purges (all_freed (all_let_go t)) (all_let_go t)
+by_deed t root need _ = t
+
+-- the blocks after what an event does to the adds, or else by its deed
+abbrev pub by_adding : Taken → Standing → ℕ → Adding → Deed → Taken
+by_adding t root need (Begins r n) deed = record t { all = t.all + need }
+by_adding t root need (Ends r) deed = record t { all = t.all - need }
+by_adding t root need _ deed = by_deed t root need deed
+
+-- the device failed while an entry was written
+abbrev pub is_failure : Reply → Bool
+is_failure (DeviceFault f) = true
+is_failure _ = false
+
+abbrev pub fails : Act → Reply → Bool
+fails (Settle r) reply = is_failure reply
+fails Sync reply = is_failure reply
+fails Unmount reply = is_failure reply
+fails _ reply = false
+
+-- the queue's purges are then in the log, and their blobs still in the map
+abbrev pub counted_again : Bool → Taken → Taken
+counted_again true t = record t { again = t.queued }
+counted_again false t = t
+
+-- the blocks after an event
+abbrev pub taken_next : Taken → Standing → ℕ → Who → Act → Reply → Taken
+taken_next t root need who act reply =
+    counted_again (fails act reply) (by_adding t root need (adding_of act reply) (deed_of who act reply))
