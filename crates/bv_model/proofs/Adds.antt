@@ -5,7 +5,7 @@ use Rattle.std.specs.List.{count_by, IsDistinct}
 use Rattle.std.specs.List.Sorted.{IsStrictlySortedBy}
 use Rattle.std.specs.BTreeMap.{insert_entry, is_at}
 use Rattle.std.specs.BTreeSet.{insert_key}
-use Rattle.std.specs.Map.{lookup, remove_entry, keys_of}
+use Rattle.std.specs.Map.{remove_entry, keys_of}
 use Rattle.std.specs.Set.{remove_key}
 use Rattle.std.specs.Ordering.{eq_by_cmp}
 use Rattle.std.proofs.lemmas.Map.{lookup-none}
@@ -18,30 +18,26 @@ use Rattle.spec_tree.specs.Order.{digest_cmp, same_digest}
 use Rattle.bv_model.proofs.Counting.{count-cons, count-insert_entry, count-remove_entry-le, none-counted, none-left}
 use Rattle.bv_model.proofs.EntryLemmas.{lookup-insert_entry, lookup-remove_other}
 use Rattle.bv_model.proofs.Holding.{digest_total, one_digest, changed-append}
-use Rattle.bv_model.proofs.Rescans.{same_self, steps_to, fits_at, state_more}
+use Rattle.bv_model.proofs.Rescans.{steps_to}
 use Rattle.bv_model.specs.Change.{change, begun, admitted, put_done, blob_of, settled, opened, let_go, emptied, closed, unlinked, sync_done, slots_emptied, unmount_done, made_durable, add_ends}
-use Rattle.bv_model.specs.Choice.{choice, at_number_end, settle_choice, if_added, place_of, unless_stopped}
+use Rattle.bv_model.specs.Choice.{choice, settle_choice, if_added, place_of, unless_stopped}
 use Rattle.bv_model.specs.History.{History, setting_of, opening_map, first_state, Legal}
-use Rattle.bv_model.specs.Log.{changed, purges, purge_of, without, queued, flushed, failed}
+use Rattle.bv_model.specs.Log.{changed, purges, purge_of, without, queued, failed}
 use Rattle.bv_model.specs.Order.{place_cmp}
 use Rattle.bv_model.specs.Rescan.{state_at}
 use Rattle.bv_model.specs.Room.{room_in}
 use Rattle.bv_model.specs.State.{State, find, among, held, holders, is_held, is_unlinked, present}
-use Rattle.bv_model.specs.Step.{Chosen, Fits, after, state_after, Steps}
-use Rattle.bv_model.specs.Taking.{Knows, known_next, adding_of, begin_adding, admit_adding, settle_adding}
+use Rattle.bv_model.specs.Step.{Chosen, after, state_after, Steps}
 use Rattle.bv_model.specs.declared.act.Act.{Act}
 use Rattle.bv_model.specs.declared.act.Act.TheVariants.{Begin, Admit, Put, Settle, Retire, Open, Fetch, Read, Scan, Close, Unlink, Sync, List as ListAll, Unmount}
-use Rattle.bv_model.specs.declared.adding.Adding.{Adding}
-use Rattle.bv_model.specs.declared.adding.Adding.TheVariants.{Nothing, Begins, Ends, Publishes}
 use Rattle.bv_model.specs.declared.choice.Choice.{Choice}
 use Rattle.bv_model.specs.declared.choice.Choice.TheVariants.{Only}
 use Rattle.bv_model.specs.declared.event.CoreEvent.{CoreEvent}
 use Rattle.bv_model.specs.declared.map_change.MapChange.{MapChange}
-use Rattle.bv_model.specs.declared.map_change.MapChange.TheVariants.{Publish, Purge}
+use Rattle.bv_model.specs.declared.map_change.MapChange.TheVariants.{Publish}
 use Rattle.bv_model.specs.declared.place.Place.{Place}
 use Rattle.bv_model.specs.declared.reply.Reply.{Reply}
 use Rattle.bv_model.specs.declared.reply.Reply.TheVariants.{Granted, Admitted, Published, Opened, Closed, Unlinked, Synced, Unmounted, DeviceFault, Exists, Leaving, InFlight, NoSpace}
-use Rattle.bv_model.specs.declared.room.Known.{Known}
 use Rattle.bv_model.specs.declared.setting.Setting.{Setting}
 use Rattle.bv_model.specs.declared.who.Who.{Who}
 

@@ -1,5 +1,5 @@
 -- What is known of a root, event by event.
-use Rattle.std.proofs.Common.{◌≡◌, ℕ, ◌+◌, ◌<◌, Bool, true, false, cond, not, is_some, ◌&&◌, Option, Some, None, List, [], ◌∷◌, ◌++◌, length, get_or, refl, ap, sym, ◌∙◌}
+use Rattle.std.proofs.Common.{◌≡◌, ℕ, ◌+◌, ◌<◌, Bool, true, false, cond, not, is_some, ◌&&◌, Option, Some, None, [], ◌∷◌, ◌++◌, length, get_or, refl, ap, sym, ◌∙◌}
 use Rattle.std.specs.BTreeMap.{insert_entry, is_at}
 use Rattle.std.specs.BTreeSet.{insert_key}
 use Rattle.std.specs.Map.{remove_entry}
@@ -15,7 +15,7 @@ use Rattle.bv_model.proofs.Holding.{digest_total, one_digest, changed-append}
 use Rattle.bv_model.proofs.Rescans.{fits_at, state_more}
 use Rattle.bv_model.specs.Change.{change, begun, admitted, put_done, blob_of, settled, opened, let_go, emptied, closed, unlinked, sync_done, slots_emptied, unmount_done, made_durable, add_ends}
 use Rattle.bv_model.specs.Choice.{choice, place_of}
-use Rattle.bv_model.specs.History.{History, setting_of, opening_map, first_state, Legal}
+use Rattle.bv_model.specs.History.{History, setting_of, opening_map, Legal}
 use Rattle.bv_model.specs.Log.{changed, queued}
 use Rattle.bv_model.specs.Order.{place_cmp}
 use Rattle.bv_model.specs.Rescan.{state_at}
@@ -25,8 +25,7 @@ use Rattle.bv_model.specs.Step.{Chosen}
 use Rattle.bv_model.specs.Taking.{Knows, known_next, adding_of, begin_adding, admit_adding, settle_adding, add_need, NeedsAt}
 use Rattle.bv_model.specs.declared.act.Act.{Act}
 use Rattle.bv_model.specs.declared.act.Act.TheVariants.{Begin, Admit, Put, Settle, Retire, Open, Fetch, Read, Scan, Close, Unlink, Sync, List as ListAll, Unmount}
-use Rattle.bv_model.specs.declared.adding.Adding.{Adding}
-use Rattle.bv_model.specs.declared.adding.Adding.TheVariants.{Nothing, Begins, Ends, Publishes}
+use Rattle.bv_model.specs.declared.adding.Adding.TheVariants.{Begins, Ends, Publishes}
 use Rattle.bv_model.specs.declared.event.CoreEvent.{CoreEvent}
 use Rattle.bv_model.specs.declared.map_change.MapChange.TheVariants.{Publish}
 use Rattle.bv_model.specs.declared.place.Place.{Place}

@@ -3,7 +3,7 @@ use Rattle.std.proofs.Common.{◌≡◌, ℕ, ◌+◌, ◌-◌, ◌<◌, ◌≤�
 use Rattle.std.specs.BTreeMap.{insert_entry, is_at}
 use Rattle.std.specs.BTreeSet.{insert_key}
 use Rattle.std.specs.List.{sum_by}
-use Rattle.std.specs.Map.{remove_entry, values_of}
+use Rattle.std.specs.Map.{values_of}
 use Rattle.std.specs.Option.{option_map, unwrap_or}
 use Rattle.std.specs.Set.{remove_key}
 use Rattle.std.proofs.lemmas.List.{drop-append-le}
@@ -21,14 +21,13 @@ use Rattle.bv_model.proofs.Numbers.{numbers_are_apart}
 use Rattle.bv_model.proofs.Rescans.{same_self, is_held_by_count, less, holders_less, fits_at, state_more}
 use Rattle.bv_model.proofs.Sums.{sum_by-push}
 use Rattle.bv_model.proofs.Takings.{need_in, need_at, need_found, purged-need, queued-need, leaving-flushed, leaving-published, leaving_blob, sum-insert_entry, sum-insert_key, sum-remove_key}
-use Rattle.bv_model.specs.Change.{change, begun, admitted, put_done, blob_of, settled, opened, let_go, emptied, closed, unlinked, sync_done, slots_emptied, unmount_done, made_durable, add_ends}
+use Rattle.bv_model.specs.Change.{change, begun, admitted, put_done, blob_of, settled, opened, emptied, closed, unlinked, sync_done, slots_emptied, unmount_done, made_durable, add_ends}
 use Rattle.bv_model.specs.Choice.{choice, if_added, is_empty, place_of, settle_choice, sync_choice, unless_stopped}
-use Rattle.bv_model.specs.History.{History, setting_of, opening_map, first_state, last_state, room, Legal}
-use Rattle.bv_model.specs.Log.{changed, purges, queued, flushed, failed, without}
-use Rattle.bv_model.specs.Order.{place_cmp}
-use Rattle.bv_model.specs.Rescan.{state_at, deed_of, close_deed, standing_in, standing_of_root, standing_for}
+use Rattle.bv_model.specs.History.{History, setting_of, opening_map, last_state, room, Legal}
+use Rattle.bv_model.specs.Log.{changed, queued, failed}
+use Rattle.bv_model.specs.Rescan.{state_at, deed_of, standing_of_root, standing_for}
 use Rattle.bv_model.specs.Room.{blob_need, purge_need, taken, room_in}
-use Rattle.bv_model.specs.State.{State, find, among, held, holders, is_held}
+use Rattle.bv_model.specs.State.{State, find, among, held, holders}
 use Rattle.bv_model.specs.Step.{Chosen}
 use Rattle.bv_model.specs.Taking.{add_need, NeedsAt, NeedsOf, all_freed, all_let_go, taken_next}
 use Rattle.bv_model.specs.declared.act.Act.{Act}
@@ -41,7 +40,6 @@ use Rattle.bv_model.specs.declared.map_change.MapChange.TheVariants.{Publish}
 use Rattle.bv_model.specs.declared.place.Place.{Place}
 use Rattle.bv_model.specs.declared.reply.Reply.{Reply}
 use Rattle.bv_model.specs.declared.reply.Reply.TheVariants.{Granted, Admitted, Published, Opened, Closed, Unlinked, Synced, Unmounted, Stopped, DeviceFault}
-use Rattle.bv_model.specs.declared.rescan.Standing.{Standing}
 use Rattle.bv_model.specs.declared.room.Taken.{Taken}
 use Rattle.bv_model.specs.declared.setting.Setting.{Setting}
 use Rattle.bv_model.specs.declared.who.Who.{Who}

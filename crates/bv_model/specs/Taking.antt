@@ -1,6 +1,6 @@
 -- What one event does to the blocks that are taken: the steps of the call that goes over a history
 -- for its room without memory, each proved to be the core's own.
-use Rattle.std.specs.Prelude.{◌≡◌, ℕ, Bool, true, false, cond, ◌+◌, ◌-◌, ◌==◌, ◌&&◌, Option, Some, None}
+use Rattle.std.specs.Prelude.{◌≡◌, ℕ, Bool, true, false, cond, ◌+◌, ◌-◌, ◌==◌, ◌&&◌, Some, None}
 use Rattle.std.specs.Option.{option_map, unwrap_or}
 use Rattle.spec_tree.specs.Tree.{need_of}
 use Rattle.spec_tree.specs.declared.Digest.{Digest}

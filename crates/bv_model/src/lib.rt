@@ -41,4 +41,6 @@ pub use step::step_of;
 pub use who::Who;
 
 #[cfg(test)]
+mod history_tests;
+#[cfg(test)]
 mod tests;

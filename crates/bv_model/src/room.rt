@@ -162,7 +162,8 @@ fn deed_need(h: &History, count: usize, deed: Deed) -> u64
 /// unlinks or closes a slot of.
 fn event_need(h: &History, count: usize, event: &CoreEvent) -> u64
     requires { count ≤ length h.now.events }
-    ensures { C.After h.now count (λ s. T.NeedsOf (setting_of h.now) s event.now.who event.now.act event.now.reply result) }
+    ensures { C.After h.now count (λ s.
+        T.NeedsOf (setting_of h.now) s event.now.who event.now.act event.now.reply result) }
 {
     match adding_of(event) {
         Adding::Begins { size, .. } => blocks(h.setting().version, size),
@@ -273,7 +274,8 @@ impl Taken {
     /// The blocks after an event, before which the root that it closes or unlinks stood so.
     fn next(self, root: Standing, need: u64, event: &CoreEvent) -> Taken
         requires { T.in_all self + need < 2 ^ 128 }
-        ensures step { result ≡ T.taken_next self root need event.now.who event.now.act event.now.reply }
+        ensures step { result
+            ≡ T.taken_next self root need event.now.who event.now.act event.now.reply }
         ensures bound { T.in_all result ≤ T.in_all self + need }
     {
         let after = self.by_adding(root, need, adding_of(event), deed_of(event));

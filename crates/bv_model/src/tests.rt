@@ -1,11 +1,7 @@
-ghost use Rattle.std.specs.Prelude.{◌≡◌, ◌≤◌, ◌-◌, ◌++◌, ◌∷◌, [], IfOk};
-ghost use Rattle.bv_model.specs.History.{Legal};
+//! The core in memory, against replies worked out by hand from the tables.
 
-use crate::{
-    Act, CoreEvent, History, Machine, Reply, Setting, Who, step_of, synced_by, worst_nodes,
-};
+use crate::{Act, CoreEvent, Machine, Reply, Setting, Who, step_of, worst_nodes};
 use spec_tree::Digest;
-use std::alloc::{AllocError, Global};
 use std::process::Abort;
 use std::test::Fail;
 
@@ -260,61 +256,11 @@ fn each_event_is_a_step_exactly_where_the_table_has_its_row(rt: HostRuntime) -> 
     Ok(())
 }
 
-/// An event of session 0, noted after so many calls of the device.
-fn note(history: &mut History, act: Act, reply: Reply, calls: u64)
-    requires { 1 ≤ history.old.spare }
-    ensures { history.new ≡ record history.old {
-      events = history.old.events ++ record { who = record { session = 0; line = 1 }; act = act; reply = reply; calls = calls } ∷ [];
-      spare = history.old.spare - 1;
-    } }
-{
-    let who = Who {
-        session: 0,
-        line: 1,
-    };
-    history.note(CoreEvent {
-        who,
-        act,
-        reply,
-        calls,
-    });
-}
-
-/// A blob is unlinked while it is open, then closed between two syncs; the third sync fails.
-fn history_of_a_purge(alloc: Global) -> Result<History, AllocError>
-    ensures { IfOk result (λ h. Legal h 1) }
-{
-    let setting = Setting {
-        blocks: 16,
-        nodes: 4,
-        version: 1,
-    };
-    let mut opening = Vec::new(alloc);
-    opening.push((A, BLOCK, 1))?;
-    let mut history = History::new(alloc, setting, opening);
-    history.reserve(6)?;
-    note(
-        &mut history,
-        Act::Open { slot: 0, root: A },
-        Reply::Opened { size: BLOCK },
-        0,
-    );
-    note(&mut history, Act::Unlink { root: A }, Reply::Unlinked, 0);
-    note(&mut history, Act::Sync, Reply::Synced, 2);
-    note(&mut history, Act::Close { slot: 0 }, Reply::Closed, 2);
-    note(&mut history, Act::Sync, Reply::Synced, 4);
-    note(&mut history, Act::Sync, Reply::DeviceFault { fault: 9 }, 5);
-    Ok(history)
-}
-
 #[test]
-fn a_purge_is_durable_from_the_first_sync_after_the_last_close(
-    rt: HostRuntime,
-) -> Result<(), Fail> {
-    let history = history_of_a_purge(rt.alloc())?;
-    for (calls, synced) in [(0, 0), (2, 0), (3, 0), (4, 1), (9, 1)] {
-        assert_eq!(rt; synced_by(&history, calls), synced, "{calls}");
+fn the_most_nodes_of_a_blob_go_by_its_version(rt: HostRuntime) {
+    // blocks of data, and with those of the tree: 1, 6 + 1, 7 + 1, 257 + 3 and 257 + 2
+    let rows = [(1, 1, 1), (1, 6, 2), (1, 7, 3), (1, 257, 45), (2, 257, 44)];
+    for (version, blocks, nodes) in rows {
+        assert_eq!(rt; worst_nodes(version, blocks * BLOCK), nodes, "{blocks}");
     }
-    assert_eq!(rt; history.events().len(), 6);
-    Ok(())
 }

@@ -1,9 +1,5 @@
-use Rattle.std.proofs.Common.{◌∙◌, ap, sym, subst, ℕ, arith}
-use Rattle.spec_tree.specs.declared.blob.Blob.{Blob}
-use Rattle.bv_model.proofs.Knowing.{knows_first, knows_more}
-use Rattle.bv_model.specs.History.{setting_of}
-use Rattle.bv_model.specs.Rescan.{state_at}
-use Rattle.bv_model.specs.Taking.{Knows}
+use Rattle.std.proofs.Common.{arith}
+use Rattle.bv_model.proofs.Knowing.{knows_more}
 use Rattle.bv_model.proofs.room.known_after.Goals as goal
 
 pub loop-i-preserved : goal.loop-i-preserved

@@ -1,7 +1,7 @@
-use Rattle.std.proofs.Common.{◌≡◌, ◌∙◌, ◌+◌, ◌-◌, ap, sym, refl, ℕ, length, take, arith}
+use Rattle.std.proofs.Common.{◌≡◌, ◌∙◌, ◌-◌, ap, ℕ, length, take, arith}
 use Rattle.std.proofs.lemmas.List.{take_all}
-use Rattle.bv_model.proofs.Rooms.{TakenOf, taken_first, taken_more, room_taken}
-use Rattle.bv_model.specs.History.{History, Legal, setting_of, opening_map, first_state, last_state}
+use Rattle.bv_model.proofs.Rooms.{taken_more, room_taken}
+use Rattle.bv_model.specs.History.{History, setting_of, opening_map, first_state, last_state}
 use Rattle.bv_model.specs.Rescan.{state_at}
 use Rattle.bv_model.specs.Step.{state_after}
 use Rattle.bv_model.specs.declared.setting.Setting.{Setting}

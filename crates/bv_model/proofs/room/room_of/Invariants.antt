@@ -1,4 +1,4 @@
-use Rattle.std.proofs.Common.{◌≤◌, ◌+◌, ◌*◌, ◌-◌, ◌^◌, ℕ, length}
+use Rattle.std.proofs.Common.{◌≤◌, ◌+◌, ◌*◌, ◌-◌, ◌^◌, ℕ}
 use Rattle.bv_model.proofs.Rooms.{TakenOf}
 use Rattle.bv_model.specs.History.{Legal, setting_of}
 use Rattle.bv_model.specs.Rescan.{state_at}

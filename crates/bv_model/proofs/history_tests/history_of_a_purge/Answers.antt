@@ -2,7 +2,7 @@ use Rattle.std.proofs.Common.{[], ◌∷◌, refl, inl, inr, arith}
 use Rattle.std.specs.List.Sorted.{IsStrictlySortedBy}
 use Rattle.spec_tree.specs.Order.{digest_cmp}
 use Rattle.spec_tree.specs.declared.Digest.{Digest}
-use Rattle.bv_model.proofs.tests.history_of_a_purge.Goals as goal
+use Rattle.bv_model.proofs.history_tests.history_of_a_purge.Goals as goal
 
 one_sorted : (r : Digest) → IsStrictlySortedBy digest_cmp (r ∷ [])
 unfolding IsStrictlySortedBy
