@@ -1,4 +1,5 @@
 pub mod CarryLemmas
 pub mod CrashLemmas
 pub mod FormatLemmas
+pub mod StillLemmas
 pub mod TimingLemmas

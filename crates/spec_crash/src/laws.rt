@@ -1,16 +1,16 @@
 //! Laws of the definitions: what each function here ensures holds of all values.
 
-ghost use Rattle.std.specs.Prelude.{◌≡◌, ◌≤◌, ◌++◌, ℕ, List, [], length, take, replicate, Err};
+ghost use Rattle.std.specs.Prelude.{◌≡◌, ◌<◌, ◌≤◌, ◌++◌, ℕ, List, [], length, take, replicate, Err};
 ghost use Rattle.spec_disk.specs.declared.event.Event.{Event};
 ghost use Rattle.spec_disk.specs.Disk.{Blocks, block};
 ghost use Rattle.spec_disk.specs.Images.{IsImage};
 ghost use Rattle.spec_image.specs.Chance.{NoChance};
-ghost use Rattle.bv_model.specs.History.{History, opening_map, log_of, with_event};
+ghost use Rattle.bv_model.specs.History.{History, Legal, opening_map, log_of, with_event};
 ghost use Rattle.bv_model.specs.declared.event.CoreEvent.{CoreEvent};
 ghost use Rattle.spec_record.specs.declared.super_fault.SuperFault.TheVariants.{Magic};
 ghost use Rattle.spec_record.specs.Superblock.{super_or_fault};
 ghost use Rattle.bv_model.specs.Log.{changed};
-ghost use Rattle.bv_model.specs.Synced.{synced_by};
+ghost use Rattle.bv_model.specs.Synced.{synced_by, logged_by};
 ghost use Rattle.spec_crash.specs.Crash.{HoldsWhole, CrashPrefix, StopsWithin};
 ghost use Rattle.spec_crash.specs.Format.{head};
 ghost use Rattle.spec_crash.specs.Timing.{IsTimed, TimesOne};
@@ -29,6 +29,19 @@ pub fn a_synced_log_is_in_every_image()
         → synced_by h n ≡ length (log_of h) → CrashPrefix base events h → n ≤ length events
         → IsImage base (take n events) j → NoChance base (take n events) j
         → HoldsWhole j (changed (opening_map h) (log_of h)) }
+{}
+
+/// What is durable at a moment of the device was logged by then.
+pub fn what_is_synced_was_logged()
+    ensures { (base : Blocks) (events : List Event) (h : History) (n : ℕ)
+        → CrashPrefix base events h → n ≤ length events → synced_by h n ≤ logged_by h n }
+{}
+
+/// That a history is legal and timed doesn't say so: a sync may have made no call of its own.
+pub fn timing_alone_lets_a_sync_make_no_call()
+    ensures { (events : List Event) × (h : History) × (next : ℕ) × (n : ℕ)
+        × Legal h next × IsTimed events h × (n ≤ length events)
+        × (logged_by h n < synced_by h n) }
 {}
 
 /// A mount that has done nothing, of a disk whose blobs are whole, keeps the theorem.
