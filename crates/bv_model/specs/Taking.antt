@@ -80,12 +80,13 @@ NeedsFor s (deeds.Closes p) need = (r : Digest) → held s.slots p ≡ Some r �
 NeedsFor s (deeds.Unlinks r) need = NeedsAt s r need
 NeedsFor s _ need = Unit {0}
 
--- these are the blocks that an event is about, by what it does to the adds, or else by its deed
+-- these are the blocks of an add that begins or ends, or else of the blob that the deed is about
 abbrev pub NeedsBy : Setting → State → Adding → Deed → ℕ → Type 0
 NeedsBy g s (Begins r n) deed need = need ≡ need_of g.version n
 NeedsBy g s (Ends r) deed need = need ≡ add_need g s r
 NeedsBy g s _ deed need = NeedsFor s deed need
 
+-- these are the blocks that an event is about
 abbrev pub NeedsOf : Setting → State → Who → Act → Reply → ℕ → Type 0
 NeedsOf g s who act reply need = NeedsBy g s (adding_of act reply) (deed_of who act reply) need
 
@@ -121,11 +122,12 @@ by_adding t root need (Begins r n) deed = record t { all = t.all + need }
 by_adding t root need (Ends r) deed = record t { all = t.all - need }
 by_adding t root need _ deed = by_deed t root need deed
 
--- the device failed while an entry was written
+-- the reply tells that a write or sync failed
 abbrev pub is_failure : Reply → Bool
 is_failure (DeviceFault f) = true
 is_failure _ = false
 
+-- the device failed while an entry was written
 abbrev pub fails : Act → Reply → Bool
 fails (Settle r) reply = is_failure reply
 fails Sync reply = is_failure reply

@@ -301,7 +301,8 @@ impl Taken {
 /// The room that a history leaves: the volume's blocks but block 0, less those of its blobs, of
 /// the adds under way, and of the purges that aren't durable; 0 where these are more.
 ///
-/// Takes no memory, and time that grows with the cube of the events.
+/// Takes no memory, and time that grows with the cube of the events, and with the events times the
+/// opening list.
 pub fn room_of(h: &History) -> u64
     requires legal { (next : ℕ) × Legal h.now next }
     ensures { result ≡ room h.now }
