@@ -4,6 +4,8 @@
 mod fault;
 mod formatting;
 mod phases;
+#[cfg(test)]
+mod tests;
 
 pub use fault::FormatFault;
 pub use formatting::format;
