@@ -12,7 +12,7 @@ use Rattle.bv_format.specs.declared.fault.FormatFault.{FormatFault}
 use Rattle.bv_format.specs.Plan.{format_plan}
 use Rattle.bv_format.specs.Answers.{CountsFault}
 
--- what a contract sees of a device: what it tells, its blocks, its writes and syncs, its failed calls
+-- what a contract sees of a device: what it tells, its blocks, its writes and syncs, its failures
 pub record View : Type 0 where
   pub told : Option Disk
   pub block_count : ℕ

@@ -1,7 +1,7 @@
 -- The plan of `format`: its writes and syncs, in their order.
 --
--- Each phase ends with a sync, so nothing is written before the old superblock is gone for good, and no superblock
--- before all that it speaks of is on the device.
+-- Each phase ends with a sync, so nothing else is written before the old superblock is gone for
+-- good, and no superblock before all that it speaks of is on the device.
 use Rattle.std.specs.Prelude.{List, ◌++◌}
 use Rattle.spec_disk.specs.declared.event.Event.{Event}
 use Rattle.spec_record.specs.declared.geometry.Geometry.{Geometry}
