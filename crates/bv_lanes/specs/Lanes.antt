@@ -1,0 +1,25 @@
+-- Eight messages side by side: each word of a state is a vector that has a lane for each message.
+use Rattle.std.specs.Prelude.{◌≡◌, ℕ, ◌*◌, ◌<◌, List, [], ◌∷◌, slice_index, slice_index_or, map}
+use Rattle.sha2.specs.Sha256.{word_at}
+
+-- a fact of each lane
+abbrev pub EachLane : (ℕ → Type 0) → Type 0
+EachLane P = (j : ℕ) → j < 8 → P j
+
+-- the word of lane j in vector k
+abbrev pub lane_word : List (List ℕ) → ℕ → ℕ → ℕ
+lane_word vectors k j = slice_index (slice_index_or vectors k []) j
+
+-- the state of lane j: its words a to h
+abbrev pub lane_state : ℕ → List (List ℕ) → List ℕ
+lane_state j state =
+    lane_word state 0 j ∷ lane_word state 1 j ∷ lane_word state 2 j ∷ lane_word state 3 j
+    ∷ lane_word state 4 j ∷ lane_word state 5 j ∷ lane_word state 6 j ∷ lane_word state 7 j ∷ []
+
+-- the words of lane j in a list of vectors
+abbrev pub lane_words : ℕ → List (List ℕ) → List ℕ
+lane_words j vectors = map (λ vector. slice_index vector j) vectors
+
+-- these are the 16 words of a piece of 64 bytes
+abbrev pub HasWords : List ℕ → List ℕ → Type 0
+HasWords words piece = (t : ℕ) → t < 16 → slice_index words t ≡ word_at piece (4 * t)

@@ -1,0 +1,31 @@
+//! The compression of a piece of 64 bytes into the hash value (FIPS 180-4, 6.2.2), in each lane.
+
+ghost use Rattle.std.specs.Prelude.{◌≡◌, ℕ, ◌*◌, ◌<◌, List};
+ghost use Rattle.sha2.specs.Sha256.{compress};
+ghost use Rattle.bv_lanes.specs.Lanes.{EachLane, HasWords, lane_state, lane_words};
+
+use crate::rounds::{State, Window, first_sixteen_rounds, sixteen_rounds};
+use crate::vectors::add;
+
+/// Runs the 64 rounds over each lane's piece, given as its words, and adds what they leave to the
+/// hash values.
+pub(crate) fn compress(state: &mut State, words: &Window)
+    ensures { EachLane (λ j. (piece : List ℕ) → HasWords (lane_words j words.now) piece
+        → lane_state j state.new ≡ compress (lane_state j state.old) piece) }
+{
+    let mut window = *words;
+    let mut v = first_sixteen_rounds(&window, *state);
+    'turns: for turn in 1..4 {
+        v = sixteen_rounds(&mut window, v, turn);
+    }
+    *state = [
+        add(state[0], v[0]),
+        add(state[1], v[1]),
+        add(state[2], v[2]),
+        add(state[3], v[3]),
+        add(state[4], v[4]),
+        add(state[5], v[5]),
+        add(state[6], v[6]),
+        add(state[7], v[7]),
+    ];
+}

@@ -1,0 +1,14 @@
+//! SHA-256 of up to eight messages side by side: each is a block after 12 bytes, and has a lane.
+#![tactic(auto)]
+
+mod compression;
+
+mod functions;
+mod message;
+mod pieces;
+pub use message::{Block, Message};
+
+
+mod rounds;
+mod vectors;
+
