@@ -1,2 +1,3 @@
 mod LaneLemmas
+mod PieceLemmas
 mod RotationLemmas

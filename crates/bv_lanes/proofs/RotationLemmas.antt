@@ -63,7 +63,7 @@ rotated_two x a b word some_a some_b few =
     ∙ bit_at_xor x inner p
     ∙ ap (λ (n : ℕ). (bit_at x p + n) % 2) (bit_of_rotated x b p word some_b (omega arith) (omega arith) ∙ ap (bit_at x) at)
     ∙ sym (bit_at_xor (rotate_right w32 x a) (rotate_right w32 x (a + b)) i
-        ∙ (λ t. (bit_of_rotated x a i word some_a (omega arith) low t + bit_of_rotated x (a + b) i word (omega arith) few low t) % 2)))
+    ∙ (λ t. (bit_of_rotated x a i word some_a (omega arith) low t + bit_of_rotated x (a + b) i word (omega arith) few low t) % 2)))
 
 -- three rotations of a word under xor, each inside the one before
 pub rotated_three : (x a b c : ℕ) → x < 2 ^ 32 → 0 < a → 0 < b → 0 < c → a + (b + c) < 32

@@ -1,11 +1,15 @@
 -- The bytes of a message, and the pieces in which SHA-256 takes them.
-use Rattle.std.specs.Prelude.{ℕ, ◌*◌, List, [], ◌++◌, take, drop, slice_index_or}
+use Rattle.std.specs.Prelude.{◌≡◌, ℕ, ◌*◌, List, [], ◌++◌, length, take, drop, slice_index_or}
 use Rattle.sha2.specs.Sha256.{padded_message}
 use Rattle.bv_lanes.specs.declared.message.Message.{Message}
 
 -- the bytes of a message: the prefix and the block
 abbrev pub bytes_of : Message → List ℕ
 bytes_of message = message.prefix ++ message.block.now
+
+-- a message has 12 bytes of prefix, and a block
+abbrev pub IsMessage : Message → Type 0
+IsMessage message = (length message.prefix ≡ 12) × (length message.block.now ≡ 8192)
 
 -- piece n of the padded message: 64 bytes
 abbrev pub piece_of : Message → ℕ → List ℕ

@@ -2,13 +2,12 @@
 #![tactic(auto)]
 
 mod compression;
-
 mod functions;
+mod hashing;
 mod message;
 mod pieces;
-pub use message::{Block, Message};
-
-
 mod rounds;
 mod vectors;
 
+pub use hashing::digests;
+pub use message::{Block, Message};

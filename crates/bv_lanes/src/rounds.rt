@@ -4,9 +4,7 @@ ghost use Rattle.std.specs.Prelude.{◌≡◌, ℕ, ◌+◌, ◌*◌, ◌%◌, �
 ghost use Rattle.sha2.specs.Sha256.{IsRoundsAt, IsWindow, round, rounds, schedule, window_word};
 ghost use Rattle.bv_lanes.specs.Lanes.{EachLane, lane_state, lane_words};
 
-use crate::functions::{
-    choose, lower_sigma0, lower_sigma1, majority, upper_sigma0, upper_sigma1,
-};
+use crate::functions::{choose, lower_sigma0, lower_sigma1, majority, upper_sigma0, upper_sigma1};
 use crate::vectors::{Words, add, splat};
 
 /// The words a to h of each lane: its hash value, or its working variables.
@@ -46,7 +44,10 @@ fn next_word(window: &mut Window, place: usize) -> Words
     ensures value { EachLane (λ j. slice_index result j ≡ window_word (lane_words j window.old) place) }
     ensures window { window.new ≡ slice_set window.old place result }
 {
-    let far = add(lower_sigma1(window[(place + 14) % 16]), window[(place + 9) % 16]);
+    let far = add(
+        lower_sigma1(window[(place + 14) % 16]),
+        window[(place + 9) % 16],
+    );
     let near = add(far, lower_sigma0(window[(place + 1) % 16]));
     let word = add(near, window[place]);
     window[place] = word;
