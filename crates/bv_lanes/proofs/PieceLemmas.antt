@@ -1,11 +1,12 @@
 -- Where the words of a padded message lie: in the prefix, in the block or in the padding.
-use Rattle.std.proofs.Common.{◌≡◌, ℕ, zero, suc, ◌+◌, ◌-◌, ◌*◌, ◌<◌, ◌≤◌, List, [], ◌∷◌, ◌++◌, length, slice_index, refl, sym, ap, subst, inl, inr, ◌∙◌, add-zero, arith, length-append}
+use Rattle.std.proofs.Common.{◌≡◌, ℕ, zero, suc, ◌+◌, ◌-◌, ◌*◌, ◌/◌, ◌<◌, ◌≤◌, List, [], ◌∷◌, ◌++◌, length, slice_index, refl, sym, ap, subst, inl, inr, ◌∙◌, add-zero, arith, length-append}
 use Rattle.std.proofs.lemmas.Bool.{cases_lt}
 use Rattle.std.proofs.lemmas.List.{get_or-append-add, get_or_append_left, get_or-drop, get_or-take, get_or-map}
 use Rattle.std.specs.Int.{w32, from_be_bytes}
-use Rattle.sha2.specs.Sha256.{padded_message, padding, word_at}
+use Rattle.sha2.specs.Sha256.{compress, final_hash, hash_after, padded_message, padding, word_at}
+use Rattle.sha2.proofs.Absorbing256.{hash_after_next}
 use Rattle.bv_lanes.specs.declared.message.Message.{Message}
-use Rattle.bv_lanes.specs.Lanes.{lane_word, lane_words}
+use Rattle.bv_lanes.specs.Lanes.{lane_state, lane_word, lane_words}
 use Rattle.bv_lanes.specs.Messages.{IsMessage, bytes_of, piece_of}
 use Rattle.bv_lanes.proofs.LaneLemmas.{each_lane}
 
@@ -95,3 +96,23 @@ in_padding m t word sized low lt is =
 -- word t of lane j
 pub lane_words_at : (vectors : List (List ℕ)) (j t : ℕ) → t < length vectors → slice_index (lane_words j vectors) t ≡ lane_word vectors t j
 lane_words_at vectors j t lt = get_or-map (λ vector. slice_index vector j) vectors t [] 0 lt
+
+-- the hash value after one piece more
+pub hash_after_more : (start : List ℕ) (m : Message) (n : ℕ) (before after : List ℕ)
+    → before ≡ hash_after start (padded_message (bytes_of m)) n → after ≡ compress before (piece_of m n)
+    → after ≡ hash_after start (padded_message (bytes_of m)) (n + 1)
+hash_after_more start m n before after held more =
+    more ∙ ap (λ h. compress h (piece_of m n)) held ∙ sym (hash_after_next start (padded_message (bytes_of m)) n)
+
+-- a message and its padding are 129 pieces
+pub final_hash_is : (start : List ℕ) (m : Message) → IsMessage m → final_hash start (bytes_of m) ≡ hash_after start (padded_message (bytes_of m)) 129
+final_hash_is start m sized =
+    let all : length (bytes_of m) ≡ 8204 = omega (arith, length-append m.prefix m.block.now, sized.0, sized.1) in
+    let rest : length (padding (length (bytes_of m))) ≡ 52 = ap (λ (n : ℕ). length (padding n)) all in
+    let pieces : length (padded_message (bytes_of m)) / 64 ≡ 129 =
+    omega (arith, all, rest, length-append (bytes_of m) (padding (length (bytes_of m)))) in
+    ap (hash_after start (padded_message (bytes_of m))) pieces
+
+-- word i of the state of a lane
+pub lane_state_at : (state : List (List ℕ)) (j i : ℕ) → i < 8 → slice_index (lane_state j state) i ≡ lane_word state i j
+lane_state_at state j = each_lane (λ i. slice_index (lane_state j state) i ≡ lane_word state i j) refl refl refl refl refl refl refl refl
