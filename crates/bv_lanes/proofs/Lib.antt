@@ -1,3 +1,3 @@
-mod LaneLemmas
+pub mod LaneLemmas
 mod PieceLemmas
 mod RotationLemmas

@@ -11,7 +11,7 @@ use Rattle.std.proofs.lemmas.Option.{slice_get-get_or, get_or_from_slice_get}
 use Rattle.spec_tree.specs.Tree.{piece, block_digest, padded_data, filled, heading}
 
 -- a block with data is filled with zeros at each level
-padded_data-some : (level : ℕ) (bytes : List ℕ) → 0 < length bytes → padded_data level bytes ≡ filled bytes
+pub padded_data-some : (level : ℕ) (bytes : List ℕ) → 0 < length bytes → padded_data level bytes ≡ filled bytes
 padded_data-some zero [] h = absurd (omega (arith, h))
 padded_data-some zero (b ∷ bs) h = refl
 padded_data-some (suc level) bytes h = refl

@@ -4,6 +4,7 @@ pub mod CloseLemmas
 pub mod HashingLemmas
 pub mod KeptLemmas
 pub mod LevelsLemmas
+pub mod SideLemmas
 pub mod SizesLemmas
 pub mod StandsLemmas
 pub mod WindowLemmas

@@ -6,8 +6,9 @@ ghost use Rattle.spec_tree.specs.Tree.{block_digest as digest_at, level_of, leve
 ghost use Rattle.bv_merkle.specs.Levels.{all_blocks};
 ghost use Rattle.bv_merkle.specs.Hasher.{Closes, Holds, KeepsOf, Stands, StandsAt, IsDigest, taken as taken_of, block_at, put_at, keep_at, shape_of, with_digest};
 
-use crate::hashing::{block_digest, window_digests};
+use crate::hashing::block_digest;
 use crate::kept::Kept;
+use crate::window::window_digests;
 use crate::{BLOCK_LEN, Block, DIGESTS};
 use spec_tree::Digest;
 

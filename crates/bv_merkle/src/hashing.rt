@@ -1,16 +1,12 @@
-//! The digest of one block, and of the blocks of a window.
+//! The digest of one block.
 
 ghost use Rattle.std.specs.Prelude.{◌≡◌, ℕ, ◌+◌, ◌*◌, ◌%◌, ◌^◌, ◌<◌, ◌≤◌, length, replicate, ◌++◌, List};
 ghost use Rattle.spec_tree.specs.Tree as T;
-ghost use Rattle.bv_merkle.specs.Hashing.{HasDigestsOf};
 ghost use Rattle.sha2.specs.Hashers.{Holds256};
 
 use crate::BLOCK_LEN;
 use sha2::{Digest as _, Sha256};
 use spec_tree::Digest;
-
-/// A block of data or of digests.
-pub type Block = [u8; 8192];
 
 // Adds zeros to the message.
 fn update_zeros(hasher: &mut Sha256, count: usize)
@@ -41,33 +37,4 @@ pub fn block_digest(level: u32, offset: u64, bytes: &[u8]) -> Digest
         update_zeros(&mut hasher, BLOCK_LEN - bytes.len());
     }
     Digest(hasher.finalize())
-}
-
-/// The digests of the blocks of a window, which begins at this byte offset of the data.
-///
-/// As many of the digests count as the bytes have blocks.
-pub(crate) fn window_digests(offset: u64, bytes: &[u8]) -> [Digest; 8]
-    requires offset { offset % 8192 ≡ 0 }
-    requires fits { offset + length bytes.now < 2 ^ 64 }
-    requires window { length bytes.now ≤ 65536 }
-    ensures { HasDigestsOf result (T.data_blocks (length bytes.now)) offset bytes.now }
-{
-    let mut digests = [Digest([0; 32]); 8];
-    for i in 0..bytes.len().div_ceil(BLOCK_LEN) {
-        digests[i] = block_digest(0, offset + (i * BLOCK_LEN) as u64, piece(bytes, i));
-    }
-    digests
-}
-
-// Piece i of the data, which the last block may not fill.
-fn piece(bytes: &[u8], i: usize) -> &[u8]
-    requires { 8192 * i ≤ length bytes.now }
-    ensures { result.now ≡ T.piece bytes.now i }
-{
-    let rest = &bytes[i * BLOCK_LEN..];
-    if rest.len() < BLOCK_LEN {
-        rest
-    } else {
-        &rest[..BLOCK_LEN]
-    }
 }

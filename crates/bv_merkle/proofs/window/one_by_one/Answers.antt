@@ -2,7 +2,7 @@ use Rattle.std.proofs.Common.{ℕ, ◌+◌, ◌*◌, ap, ◌∙◌, arith}
 use Rattle.std.proofs.lemmas.List.{length-set}
 use Rattle.spec_tree.specs.Tree.{block_digest, piece}
 use Rattle.bv_merkle.proofs.HashingLemmas.{made-more, piece-few}
-use Rattle.bv_merkle.proofs.hashing.window_digests.Goals as goal
+use Rattle.bv_merkle.proofs.window.one_by_one.Goals as goal
 
 pub block_digest-requires-clause-data : goal.block_digest-requires-clause-data
 block_digest-requires-clause-data c = piece-few c.args.bytes.now c.piece.result.now c.loop-i.i c.piece.ensures

@@ -1,6 +1,6 @@
 use Rattle.std.proofs.Common.{◌≡◌, length}
 use Rattle.bv_merkle.specs.Hashing.{HasDigestsOf}
-use Rattle.bv_merkle.proofs.hashing.window_digests.Given as goal
+use Rattle.bv_merkle.proofs.window.one_by_one.Given as goal
 
 abbrev pub invariant-loop-i : goal.invariant-loop-i
 invariant-loop-i l = record {
