@@ -8,15 +8,14 @@ use crate::rounds::{State, Window, first_sixteen_rounds, sixteen_rounds};
 use crate::vectors::add;
 
 /// Runs the 64 rounds over each lane's piece, given as its words, and adds what they leave to the
-/// hash values.
-pub(crate) fn compress(state: &mut State, words: &Window)
-    ensures { EachLane (λ j. (piece : List ℕ) → HasWords (lane_words j words.now) piece
+/// hash values. The words are used up: what is left of them is the end of the schedule.
+pub(crate) fn compress(state: &mut State, words: &mut Window)
+    ensures { EachLane (λ j. (piece : List ℕ) → HasWords (lane_words j words.old) piece
         → lane_state j state.new ≡ compress (lane_state j state.old) piece) }
 {
-    let mut window = *words;
-    let mut v = first_sixteen_rounds(&window, *state);
+    let mut v = first_sixteen_rounds(words, *state);
     'turns: for turn in 1..4 {
-        v = sixteen_rounds(&mut window, v, turn);
+        v = sixteen_rounds(words, v, turn);
     }
     *state = [
         add(state[0], v[0]),

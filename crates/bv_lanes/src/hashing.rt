@@ -7,7 +7,7 @@ ghost use Rattle.bv_lanes.specs.Messages.{IsMessage, bytes_of, message_at};
 
 use crate::compression::compress;
 use crate::message::Message;
-use crate::pieces::{LAST_PIECE, first_words, last_words, middle_words};
+use crate::pieces::{LAST_PIECE, put_first_words, put_last_words, put_middle_words};
 use crate::rounds::State;
 use crate::vectors::splat;
 
@@ -36,11 +36,15 @@ fn final_state(messages: &[Message; 8]) -> State
         ≡ final_hash initial_hash_256 (bytes_of (message_at messages.now j))) }
 {
     let mut state = initial_state();
-    compress(&mut state, &first_words(messages));
+    let mut words = [splat(0); 16];
+    put_first_words(&mut words, messages);
+    compress(&mut state, &mut words);
     'pieces: for piece in 1..LAST_PIECE {
-        compress(&mut state, &middle_words(messages, piece));
+        put_middle_words(&mut words, messages, piece);
+        compress(&mut state, &mut words);
     }
-    compress(&mut state, &last_words(messages));
+    put_last_words(&mut words, messages);
+    compress(&mut state, &mut words);
     state
 }
 

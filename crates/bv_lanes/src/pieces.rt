@@ -109,40 +109,40 @@ fn put_block_words(
     }
 }
 
-/// The words of piece 0: those of the prefix, and the first 13 of the block.
-pub(crate) fn first_words(messages: &[Message; 8]) -> Window
-    ensures words { EachLane (λ j. HasWords (lane_words j result) (piece_of (message_at messages.now j) 0)) }
+/// Puts the words of piece 0: those of the prefix, and the first 13 of the block.
+pub(crate) fn put_first_words(words: &mut Window, messages: &[Message; 8])
+    ensures words { EachLane (λ j. HasWords (lane_words j words.new)
+        (piece_of (message_at messages.now j) 0)) }
     // What the type says.
     ensures sizes { EachLane (λ j. IsMessage (message_at messages.now j)) }
 {
-    let mut words = [splat(0); 16];
+    *words = [splat(0); 16];
     words[0] = prefix_words(messages, 0);
     words[1] = prefix_words(messages, 4);
     words[2] = prefix_words(messages, 8);
-    put_block_words(&mut words, messages, 0, PREFIX_WORDS, 16);
-    words
+    put_block_words(words, messages, 0, PREFIX_WORDS, 16);
 }
 
-/// The words of a piece between the first and the last: all of them are the block's.
-pub(crate) fn middle_words(messages: &[Message; 8], piece: usize) -> Window
+/// Puts the words of a piece between the first and the last: all of them are the block's.
+#[inline]
+pub(crate) fn put_middle_words(words: &mut Window, messages: &[Message; 8], piece: usize)
     requires after_first { 0 < piece }
     requires before_last { piece < 128 }
     requires sizes { EachLane (λ j. IsMessage (message_at messages.now j)) }
-    ensures { EachLane (λ j. HasWords (lane_words j result) (piece_of (message_at messages.now j) piece)) }
+    ensures { EachLane (λ j. HasWords (lane_words j words.new)
+        (piece_of (message_at messages.now j) piece)) }
 {
-    let mut words = [splat(0); 16];
-    put_block_words(&mut words, messages, piece, 0, 16);
-    words
+    put_block_words(words, messages, piece, 0, 16);
 }
 
-/// The words of the last piece: the last 3 of the block, and the padding.
-pub(crate) fn last_words(messages: &[Message; 8]) -> Window
+/// Puts the words of the last piece: the last 3 of the block, and the padding.
+pub(crate) fn put_last_words(words: &mut Window, messages: &[Message; 8])
     requires sizes { EachLane (λ j. IsMessage (message_at messages.now j)) }
-    ensures { EachLane (λ j. HasWords (lane_words j result) (piece_of (message_at messages.now j) 128)) }
+    ensures { EachLane (λ j. HasWords (lane_words j words.new)
+        (piece_of (message_at messages.now j) 128)) }
 {
-    let mut words = [splat(0); 16];
+    *words = [splat(0); 16];
     words[PREFIX_WORDS] = splat(END_OF_MESSAGE);
     words[15] = splat(MESSAGE_BITS);
-    put_block_words(&mut words, messages, LAST_PIECE, 0, PREFIX_WORDS);
-    words
+    put_block_words(words, messages, LAST_PIECE, 0, PREFIX_WORDS);
 }

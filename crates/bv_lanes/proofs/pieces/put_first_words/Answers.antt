@@ -4,7 +4,7 @@ use Rattle.sha2.specs.Sha256.{word_at}
 use Rattle.bv_lanes.specs.Lanes.{lane_word, lane_words}
 use Rattle.bv_lanes.specs.Messages.{IsMessage, message_at, piece_of}
 use Rattle.bv_lanes.proofs.PieceLemmas.{each_of_three, in_block, in_prefix, lane_words_at}
-use Rattle.bv_lanes.proofs.pieces.first_words.Goals as goal
+use Rattle.bv_lanes.proofs.pieces.put_first_words.Goals as goal
 
 pub returns-clause-sizes : goal.returns-clause-sizes
 returns-clause-sizes c j lt = (c.prefix_words.ensures.sizes j lt, c.put_block_words.ensures.sizes (omega arith) j lt)

@@ -1,7 +1,7 @@
 use Rattle.std.proofs.Common.{◌+◌, ◌*◌, ◌∙◌, arith}
 use Rattle.bv_lanes.specs.Messages.{message_at}
 use Rattle.bv_lanes.proofs.PieceLemmas.{in_block, lane_words_at}
-use Rattle.bv_lanes.proofs.pieces.middle_words.Goals as goal
+use Rattle.bv_lanes.proofs.pieces.put_middle_words.Goals as goal
 
 pub returns : goal.returns
 returns c j lt t low =

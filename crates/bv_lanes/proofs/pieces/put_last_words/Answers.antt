@@ -3,7 +3,7 @@ use Rattle.sha2.specs.Sha256.{padding, word_at}
 use Rattle.bv_lanes.specs.Lanes.{lane_word, lane_words}
 use Rattle.bv_lanes.specs.Messages.{message_at, piece_of}
 use Rattle.bv_lanes.proofs.PieceLemmas.{each_word, in_block, in_padding, lane_words_at}
-use Rattle.bv_lanes.proofs.pieces.last_words.Goals as goal
+use Rattle.bv_lanes.proofs.pieces.put_last_words.Goals as goal
 
 pub returns : goal.returns
 returns c j lt t low =
