@@ -1,5 +1,6 @@
 -- What holds of each of eight lanes, and of a list of eight.
-use Rattle.std.proofs.Common.{◌≡◌, ℕ, zero, suc, ◌<◌, ◌+◌, List, [], ◌∷◌, length, arith}
+use Rattle.std.proofs.Common.{◌≡◌, ℕ, zero, suc, ◌<◌, ◌+◌, List, [], ◌∷◌, length, ap, ◌∙◌, arith}
+use Rattle.sha2.specs.Sha256.{IsWindow, rounds, schedule}
 
 -- what holds of each of eight lanes
 pub each_lane : (P : ℕ → Type 0) → P 0 → P 1 → P 2 → P 3 → P 4 → P 5 → P 6 → P 7 → (j : ℕ) → j < 8 → P j
@@ -25,3 +26,11 @@ eight_of P p (a ∷ b ∷ c ∷ d ∷ e ∷ []) len = absurd (omega arith)
 eight_of P p (a ∷ b ∷ c ∷ d ∷ e ∷ f ∷ []) len = absurd (omega arith)
 eight_of P p (a ∷ b ∷ c ∷ d ∷ e ∷ f ∷ g ∷ []) len = absurd (omega arith)
 eight_of P p (a ∷ b ∷ c ∷ d ∷ e ∷ f ∷ g ∷ h ∷ i ∷ xs) len = absurd (omega arith)
+
+-- the same window, at a place that is spelled another way
+pub IsWindow_at : (piece w : List ℕ) (n k : ℕ) → n ≡ k → IsWindow w (schedule piece 48) n → IsWindow w (schedule piece 48) k
+IsWindow_at piece w n k at window = rw (← at) window
+
+-- the same working variables, at a round that is spelled another way
+pub rounds_at : (piece h v : List ℕ) (n k : ℕ) → n ≡ k → v ≡ rounds h (schedule piece 48) n → v ≡ rounds h (schedule piece 48) k
+rounds_at piece h v n k at is = is ∙ ap (rounds h (schedule piece 48)) at

@@ -4,7 +4,8 @@ ghost use Rattle.std.specs.Prelude.{◌≡◌, ℕ, ◌*◌, ◌<◌, List};
 ghost use Rattle.sha2.specs.Sha256.{compress};
 ghost use Rattle.bv_lanes.specs.Lanes.{EachLane, HasWords, lane_state, lane_words};
 
-use crate::rounds::{State, Window, first_sixteen_rounds, sixteen_rounds};
+use crate::rounds::{State, sixteen_rounds};
+use crate::schedule::{Window, put_next_words};
 use crate::vectors::add;
 
 /// Runs the 64 rounds over each lane's piece, given as its words, and adds what they leave to the
@@ -13,8 +14,9 @@ pub(crate) fn compress(state: &mut State, words: &mut Window)
     ensures { EachLane (λ j. (piece : List ℕ) → HasWords (lane_words j words.old) piece
         → lane_state j state.new ≡ compress (lane_state j state.old) piece) }
 {
-    let mut v = first_sixteen_rounds(words, *state);
+    let mut v = sixteen_rounds(words, *state, 0);
     'turns: for turn in 1..4 {
+        put_next_words(words);
         v = sixteen_rounds(words, v, turn);
     }
     *state = [

@@ -51,10 +51,12 @@ pub(crate) fn choose(x: Words, y: Words, z: Words) -> Words
 }
 
 /// Maj: each bit is the one that two of the three have.
+///
+/// The exclusive or of `x` and `y` is that of `y` and `z` in the next round, so it is made once.
 #[inline]
 pub(crate) fn majority(x: Words, y: Words, z: Words) -> Words
     ensures { EachLane (λ j. slice_index result j
         ≡ maj (slice_index x j) (slice_index y j) (slice_index z j)) }
 {
-    xor(xor(and(x, y), and(x, z)), and(y, z))
+    xor(y, and(xor(x, y), xor(y, z)))
 }

@@ -7,6 +7,7 @@ mod hashing;
 mod message;
 mod pieces;
 mod rounds;
+mod schedule;
 mod vectors;
 
 pub use hashing::digests;

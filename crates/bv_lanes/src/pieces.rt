@@ -9,7 +9,7 @@ ghost use Rattle.bv_lanes.specs.Lanes.{EachLane, HasWords, lane_word, lane_words
 ghost use Rattle.bv_lanes.specs.Messages.{IsMessage, message_at, piece_of};
 
 use crate::message::{Block, Message};
-use crate::rounds::Window;
+use crate::schedule::Window;
 use crate::vectors::{Words, splat};
 
 /// The last piece, counted from 0.

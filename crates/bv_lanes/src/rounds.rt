@@ -1,17 +1,15 @@
-//! The 64 rounds (FIPS 180-4, 6.2.2, step 3) and the words that they take, in each lane.
+//! The 64 rounds (FIPS 180-4, 6.2.2, step 3) in each lane, sixteen at a time.
 
-ghost use Rattle.std.specs.Prelude.{◌≡◌, ℕ, ◌+◌, ◌*◌, ◌%◌, ◌<◌, ◌≤◌, List, slice_index, slice_set};
-ghost use Rattle.sha2.specs.Sha256.{IsRoundsAt, IsWindow, round, rounds, schedule, window_word};
-ghost use Rattle.bv_lanes.specs.Lanes.{EachLane, lane_state, lane_words};
+ghost use Rattle.std.specs.Prelude.{◌≡◌, ℕ, ◌+◌, ◌*◌, ◌<◌, ◌≤◌, List, slice_index};
+ghost use Rattle.sha2.specs.Sha256.{round};
+ghost use Rattle.bv_lanes.specs.Lanes.{EachLane, RunsRounds, lane_state};
 
-use crate::functions::{choose, lower_sigma0, lower_sigma1, majority, upper_sigma0, upper_sigma1};
+use crate::functions::{choose, majority, upper_sigma0, upper_sigma1};
+use crate::schedule::Window;
 use crate::vectors::{Words, add, splat};
 
 /// The words a to h of each lane: its hash value, or its working variables.
 pub(crate) type State = [Words; 8];
-
-/// The last 16 words of each lane's schedule: word t is at place t % 16.
-pub(crate) type Window = [Words; 16];
 
 /// The constants of the rounds (4.2.2).
 const K: [u32; 64] = [
@@ -37,69 +35,21 @@ fn round(v: State, constant: u32, word: Words) -> State
     [add(first, second), a, b, c, add(d, first), e, f, g]
 }
 
-/// The next word of the schedule, which goes at `place`, over the word 16 before it.
+/// Round `16 * turn + place`.
 #[inline(always)]
-fn next_word(window: &mut Window, place: usize) -> Words
-    requires { place < 16 }
-    ensures value { EachLane (λ j. slice_index result j ≡ window_word (lane_words j window.old) place) }
-    ensures window { window.new ≡ slice_set window.old place result }
-{
-    let far = add(
-        lower_sigma1(window[(place + 14) % 16]),
-        window[(place + 9) % 16],
-    );
-    let near = add(far, lower_sigma0(window[(place + 1) % 16]));
-    let word = add(near, window[place]);
-    window[place] = word;
-    word
-}
-
-/// Round `t`, one of the first 16: its words are the block's.
-#[inline(always)]
-fn first_step(window: &Window, v: State, t: usize) -> State
-    requires { t < 16 }
-    ensures { EachLane (λ j. (b h : List ℕ) → IsWindow (lane_words j window.now) (schedule b 48) 16
-        → lane_state j v ≡ rounds h (schedule b 48) t
-        → lane_state j result ≡ rounds h (schedule b 48) (t + 1)) }
-{
-    round(v, K[t], window[t])
-}
-
-/// Round `16 * turn + place`, with the word of the schedule that it takes.
-#[inline(always)]
-fn step(window: &mut Window, v: State, turn: usize, place: usize) -> State
-    requires low { 1 ≤ turn }
-    requires high { turn < 4 }
+fn step(window: &Window, v: State, turn: usize, place: usize) -> State
+    requires turn { turn < 4 }
     requires place { place < 16 }
-    ensures { EachLane (λ j. (b h : List ℕ)
-        → IsRoundsAt b h (lane_words j window.old) (lane_state j v) (16 * turn + place)
-        → IsRoundsAt b h (lane_words j window.new) (lane_state j result) (16 * turn + (place + 1))) }
+    ensures { RunsRounds window.now v result turn place 1 }
 {
-    let word = next_word(window, place);
-    round(v, K[16 * turn + place], word)
+    round(v, K[16 * turn + place], window[place])
 }
 
 #[inline(always)]
-fn first_four_steps(window: &Window, v: State, t: usize) -> State
-    requires { t + 4 ≤ 16 }
-    ensures { EachLane (λ j. (b h : List ℕ) → IsWindow (lane_words j window.now) (schedule b 48) 16
-        → lane_state j v ≡ rounds h (schedule b 48) t
-        → lane_state j result ≡ rounds h (schedule b 48) (t + 4)) }
-{
-    let v = first_step(window, v, t);
-    let v = first_step(window, v, t + 1);
-    let v = first_step(window, v, t + 2);
-    first_step(window, v, t + 3)
-}
-
-#[inline(always)]
-fn four_steps(window: &mut Window, v: State, turn: usize, place: usize) -> State
-    requires low { 1 ≤ turn }
-    requires high { turn < 4 }
+fn four_steps(window: &Window, v: State, turn: usize, place: usize) -> State
+    requires turn { turn < 4 }
     requires place { place + 4 ≤ 16 }
-    ensures { EachLane (λ j. (b h : List ℕ)
-        → IsRoundsAt b h (lane_words j window.old) (lane_state j v) (16 * turn + place)
-        → IsRoundsAt b h (lane_words j window.new) (lane_state j result) (16 * turn + (place + 4))) }
+    ensures { RunsRounds window.now v result turn place 4 }
 {
     let v = step(window, v, turn, place);
     let v = step(window, v, turn, place + 1);
@@ -107,26 +57,11 @@ fn four_steps(window: &mut Window, v: State, turn: usize, place: usize) -> State
     step(window, v, turn, place + 3)
 }
 
-/// The first 16 rounds.
+/// The rounds that take the words of a window: from `16 * turn` on.
 #[inline(always)]
-pub(crate) fn first_sixteen_rounds(window: &Window, v: State) -> State
-    ensures { EachLane (λ j. (b : List ℕ) → IsWindow (lane_words j window.now) (schedule b 48) 16
-        → lane_state j result ≡ rounds (lane_state j v) (schedule b 48) 16) }
-{
-    let v = first_four_steps(window, v, 0);
-    let v = first_four_steps(window, v, 4);
-    let v = first_four_steps(window, v, 8);
-    first_four_steps(window, v, 12)
-}
-
-/// Sixteen rounds more, so that the place of each word in the window is a constant.
-#[inline(always)]
-pub(crate) fn sixteen_rounds(window: &mut Window, v: State, turn: usize) -> State
-    requires low { 1 ≤ turn }
-    requires high { turn < 4 }
-    ensures { EachLane (λ j. (b h : List ℕ)
-        → IsRoundsAt b h (lane_words j window.old) (lane_state j v) (16 * turn)
-        → IsRoundsAt b h (lane_words j window.new) (lane_state j result) (16 * (turn + 1))) }
+pub(crate) fn sixteen_rounds(window: &Window, v: State, turn: usize) -> State
+    requires { turn < 4 }
+    ensures { RunsRounds window.now v result turn 0 16 }
 {
     let v = four_steps(window, v, turn, 0);
     let v = four_steps(window, v, turn, 4);

@@ -1,11 +1,10 @@
 use Rattle.std.proofs.Common.{arith}
-use Rattle.sha2.proofs.Schedule256.{IsRoundsAt_at}
+use Rattle.bv_lanes.proofs.LaneLemmas.{rounds_at}
 use Rattle.bv_lanes.proofs.rounds.four_steps.Goals as goal
 
 pub returns : goal.returns
-returns c j lt b h held =
-    let s1 = c.step-v.ensures j lt b h held in
-    let s2 = c.step-v-2.ensures j lt b h s1 in
-    let s3 = c.step-v-3.ensures j lt b h (IsRoundsAt_at b h _ _ _ _ (omega arith) s2) in
-    let s4 = c.step.ensures j lt b h (IsRoundsAt_at b h _ _ _ _ (omega arith) s3) in
-    IsRoundsAt_at b h _ _ _ _ (omega arith) s4
+returns c j lt piece h window before =
+    let v1 = rounds_at piece h _ _ _ (omega arith) (c.step-v.ensures j lt piece h window before) in
+    let v2 = rounds_at piece h _ _ _ (omega arith) (c.step-v-2.ensures j lt piece h window v1) in
+    let v3 = rounds_at piece h _ _ _ (omega arith) (c.step-v-3.ensures j lt piece h window v2) in
+    rounds_at piece h _ _ _ (omega arith) (c.step.ensures j lt piece h window v3)

@@ -1,11 +1,10 @@
 use Rattle.std.proofs.Common.{arith}
-use Rattle.sha2.proofs.Schedule256.{IsRoundsAt_at}
+use Rattle.bv_lanes.proofs.LaneLemmas.{rounds_at}
 use Rattle.bv_lanes.proofs.rounds.sixteen_rounds.Goals as goal
 
 pub returns : goal.returns
-returns c j lt b h held =
-    let s1 = c.four_steps-v.ensures j lt b h (IsRoundsAt_at b h _ _ _ _ (omega arith) held) in
-    let s2 = c.four_steps-v-2.ensures j lt b h s1 in
-    let s3 = c.four_steps-v-3.ensures j lt b h s2 in
-    let s4 = c.four_steps.ensures j lt b h s3 in
-    IsRoundsAt_at b h _ _ _ _ (omega arith) s4
+returns c j lt piece h window before =
+    let v1 = rounds_at piece h _ _ _ (omega arith) (c.four_steps-v.ensures j lt piece h window before) in
+    let v2 = rounds_at piece h _ _ _ (omega arith) (c.four_steps-v-2.ensures j lt piece h window v1) in
+    let v3 = rounds_at piece h _ _ _ (omega arith) (c.four_steps-v-3.ensures j lt piece h window v2) in
+    rounds_at piece h _ _ _ (omega arith) (c.four_steps.ensures j lt piece h window v3)
