@@ -12,3 +12,6 @@ mod vectors;
 
 pub use hashing::digests;
 pub use message::{Block, Message};
+
+#[cfg(test)]
+mod tests;

@@ -66,6 +66,18 @@ fn roots_are_those_known_outside(rt: HostRuntime) -> Result<(), Fail> {
         "two blocks"
     );
     assert!(rt;
+        has_root(rt.alloc(), 0x41, 16385, 0x48a483cc989cfb8b)?,
+        "three blocks, the last of one byte"
+    );
+    assert!(rt;
+        has_root(rt.alloc(), 0x41, 65535, 0xbdb1e6c4dd24a967)?,
+        "a window that lacks one byte"
+    );
+    assert!(rt;
+        has_root(rt.alloc(), 0x41, 65536, 0xbda3bac47c49b170)?,
+        "one window"
+    );
+    assert!(rt;
         has_root(rt.alloc(), 0x41, 65537, 0xcad84921a1e67f0c)?,
         "two windows"
     );
