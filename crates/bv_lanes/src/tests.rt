@@ -66,7 +66,11 @@ fn each_number_of_messages_has_the_digests_known_outside(rt: HostRuntime) {
     for count in 1..9usize {
         let found = digests(&messages[..count]);
         for lane in 0..count {
-            assert_eq!(rt; head(&found[lane]), HEADS[lane], "message {lane} of {count}");
+            assert_eq!(rt;
+                head(&found[lane]),
+                HEADS[lane],
+                "message {lane} of {count}"
+            );
         }
     }
 }
