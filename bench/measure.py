@@ -4,8 +4,10 @@ A program of a bench lies in bench/NAME/main.rattle. It stands outside the gate:
 builds it, for this processor, in a folder of its own over copies of the crates that it stands on.
 """
 import pathlib
+import resource
 import shutil
 import subprocess
+import tempfile
 import time
 
 TOP = pathlib.Path(__file__).resolve().parent.parent
@@ -17,6 +19,21 @@ def blobfs():
     return TOP / "out/blobfs"
 
 
+def default_blobfs():
+    """The program for the processor that rt builds for by itself, kept beside the other."""
+    program = TOP / "out/blobfs_default"
+    sources = [path for name in ["src", "specs", "proofs"] for path in (TOP / "crates").glob(f"*/{name}/**/*")]
+    newest = max(path.stat().st_mtime for path in sources)
+    if not program.exists() or program.stat().st_mtime < newest:
+        folder = TOP / "crates/bv_main"
+        subprocess.run(
+            ["rt", "run", "--", "--version"], cwd=folder, check=True, stdin=subprocess.DEVNULL,
+            stdout=subprocess.DEVNULL, stderr=subprocess.DEVNULL,
+        )
+        shutil.copy(folder / "out/bv_main", program)
+    return program
+
+
 def crates():
     """The repository's crates: the whole line of each, and what it stands on."""
     lines = {}
@@ -25,6 +42,12 @@ def crates():
         if colon and not line.startswith("#"):
             lines[head.split()[0]] = (line, below.split())
     return lines
+
+
+def for_this_processor():
+    """The flags that build for this processor, where rt can."""
+    processor = pathlib.Path("/proc/cpuinfo").read_text(encoding="utf-8")
+    return ["--cpu", "x86-64-v3"] if "avx2" in processor else []
 
 
 def proved_program(name, below, folder):
@@ -47,11 +70,9 @@ def proved_program(name, below, folder):
                 if (TOP / "crates" / crate / part).is_dir():
                     shutil.copytree(TOP / "crates" / crate / part, folder / "crates" / crate / part)
     (folder / "crates.txt").write_text("\n".join(listed) + "\n", encoding="utf-8")
-    processor = pathlib.Path("/proc/cpuinfo").read_text(encoding="utf-8")
-    flags = ["--cpu", "x86-64-v3"] if "avx2" in processor else []
     subprocess.run(["git", "init", "-q"], cwd=folder, check=True)
     built = subprocess.run(
-        ["rt", "run", *flags], cwd=source.parent, stdin=subprocess.DEVNULL, capture_output=True,
+        ["rt", "run", *for_this_processor()], cwd=source.parent, stdin=subprocess.DEVNULL, capture_output=True,
         text=True, check=False,
     )
     program = source.parent / "out" / name
@@ -66,6 +87,27 @@ def timed(words, stdin):
         start = time.perf_counter()
         done = subprocess.run(words, stdin=given, capture_output=True, text=True, check=True)
         return time.perf_counter() - start, done.stdout
+
+
+def processor_seconds(words, stdin):
+    """One run: the seconds that it had a processor, in its own code and in the kernel."""
+    before = resource.getrusage(resource.RUSAGE_CHILDREN)
+    timed(words, stdin)
+    after = resource.getrusage(resource.RUSAGE_CHILDREN)
+    return after.ru_utime + after.ru_stime - before.ru_utime - before.ru_stime
+
+
+def instructions(words, stdin):
+    """The instructions of one run in millions, as text; a dash where valgrind isn't there to count."""
+    if not shutil.which("valgrind"):
+        return "-"
+    with open(stdin, "rb") as given, tempfile.NamedTemporaryFile() as counts:
+        done = subprocess.run(
+            ["valgrind", "--tool=callgrind", f"--callgrind-out-file={counts.name}", *words],
+            stdin=given, capture_output=True, text=True, check=True,
+        )
+    counted = next(line for line in done.stderr.splitlines() if "refs:" in line)
+    return f"{int(counted.split()[-1].replace(',', '')) / 1e6:.1f}"
 
 
 def most_memory(words, stdin):

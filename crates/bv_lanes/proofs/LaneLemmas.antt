@@ -1,5 +1,5 @@
 -- What holds of each of eight lanes, and of a list of eight.
-use Rattle.std.proofs.Common.{◌≡◌, ℕ, zero, suc, ◌<◌, ◌+◌, List, [], ◌∷◌, length, ap, ◌∙◌, arith}
+use Rattle.std.proofs.Common.{◌≡◌, ℕ, zero, suc, ◌<◌, List, [], ◌∷◌, length, ap, ◌∙◌, arith}
 use Rattle.sha2.specs.Sha256.{IsWindow, rounds, schedule}
 
 -- what holds of each of eight lanes

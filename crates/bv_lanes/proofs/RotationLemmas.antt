@@ -1,5 +1,5 @@
 -- Rotations inside rotations, bit by bit: bit i of a word that is rotated by k is its bit i + k.
-use Rattle.std.proofs.Common.{◌≡◌, ℕ, ◌+◌, ◌-◌, ◌*◌, ◌/◌, ◌%◌, ◌^◌, ◌<◌, ◌≤◌, bit_or, bit_xor, refl, sym, ap, ◌∙◌, inl, inr, add-zero, arith}
+use Rattle.std.proofs.Common.{◌≡◌, ℕ, ◌+◌, ◌-◌, ◌*◌, ◌/◌, ◌%◌, ◌^◌, ◌<◌, bit_or, bit_xor, sym, ap, ◌∙◌, inl, inr, add-zero, arith}
 use Rattle.std.specs.Int.{w32, bit_at, rotate_right}
 use Rattle.std.proofs.lemmas.Bool.{cases_lt}
 use Rattle.std.proofs.lemmas.Nat.{mod-pow-add, mod_below, mod_low, or_comm, or_lt, or_shifted, pow_pos, shl-shr, shr_below, shr_le, shr_split, shr-shr, xor_lt}

@@ -1,5 +1,5 @@
 -- The digests of a window's blocks, from those of the messages that are hashed side by side.
-use Rattle.std.proofs.Common.{◌≡◌, ℕ, zero, suc, ◌+◌, ◌-◌, ◌*◌, ◌/◌, ◌<◌, ◌≤◌, List, [], ◌∷◌, ◌++◌, length, take, drop, map, get_or, replicate, Some, length-drop, length-take, inl, inr, refl, sym, ap, ◌∙◌, arith}
+use Rattle.std.proofs.Common.{◌≡◌, ℕ, zero, suc, ◌+◌, ◌-◌, ◌*◌, ◌/◌, ◌<◌, ◌≤◌, List, [], ◌++◌, length, take, drop, map, get_or, replicate, Some, length-drop, length-take, inl, inr, sym, ap, ◌∙◌, arith}
 use Rattle.std.specs.List.{slice_get}
 use Rattle.std.specs.Simd.{first_chunks}
 use Rattle.std.proofs.lemmas.Bool.{cases_lt}
@@ -7,7 +7,7 @@ use Rattle.std.proofs.lemmas.List.{append-nil, drop-drop, get_or-map, get_or-tak
 use Rattle.std.proofs.lemmas.Option.{slice_get-get_or}
 use Rattle.sha2.specs.Sha256.{sha256}
 use Rattle.spec_tree.specs.declared.Digest.{Digest}
-use Rattle.spec_tree.specs.Tree.{block_digest, data_blocks, filled, heading, padded_data, piece}
+use Rattle.spec_tree.specs.Tree.{block_digest, data_blocks, filled, heading, piece}
 use Rattle.bv_lanes.specs.declared.message.Message.{Message}
 use Rattle.bv_lanes.specs.Messages.{bytes_of, message_at}
 use Rattle.bv_merkle.proofs.HashingLemmas.{padded_data-some}
@@ -85,5 +85,5 @@ side_digest bytes rest offset n i whole messages some found front back count fit
     ∙ ap of (get_or-take n messages i _ low) in
     slice_get-get_or (map digest_of found) i (digest_of []) (omega (arith, length-map found digest_of))
     ∙ ap Some (get_or-map digest_of found i [] (digest_of []) (omega arith)
-        ∙ ap digest_of here
-        ∙ digest_of_message (offset + 8192 * i) (piece bytes i) m has_data part)
+    ∙ ap digest_of here
+    ∙ digest_of_message (offset + 8192 * i) (piece bytes i) m has_data part)

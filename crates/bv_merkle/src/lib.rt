@@ -10,8 +10,8 @@ mod sizes;
 mod window;
 
 pub use builder::{Builder, Tree};
-pub use hasher::RootHasher;
 pub use bv_lanes::Block;
+pub use hasher::RootHasher;
 pub use hashing::block_digest;
 pub use rooting::root;
 pub use sizes::{blocks_needed, blocks_needed_of, levels, tree_blocks, tree_blocks_of, windows};

@@ -1,4 +1,4 @@
-use Rattle.std.proofs.Common.{◌≡◌, ℕ, ◌<◌, List, [], ◌∷◌, length, map, refl, sym, ap, ◌∙◌, arith}
+use Rattle.std.proofs.Common.{◌≡◌, ℕ, ◌<◌, List, [], ◌∷◌, length, map, refl, ap, ◌∙◌, arith}
 use Rattle.sha2.specs.Sha256.{digest_bytes, sha256}
 use Rattle.bv_lanes.specs.declared.message.Message.{Message}
 use Rattle.bv_lanes.specs.Messages.{bytes_of, message_at}

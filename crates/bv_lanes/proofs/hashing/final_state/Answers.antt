@@ -1,6 +1,6 @@
-use Rattle.std.proofs.Common.{◌≡◌, ℕ, ap, sym, ◌∙◌, arith}
-use Rattle.sha2.specs.Sha256.{compress, hash_after, initial_hash_256, padded_message}
-use Rattle.bv_lanes.specs.Messages.{bytes_of, message_at, piece_of}
+use Rattle.std.proofs.Common.{◌≡◌, sym, ◌∙◌, arith}
+use Rattle.sha2.specs.Sha256.{hash_after, initial_hash_256}
+use Rattle.bv_lanes.specs.Messages.{message_at, piece_of}
 use Rattle.bv_lanes.proofs.PieceLemmas.{final_hash_is, hash_after_more}
 use Rattle.bv_lanes.proofs.hashing.final_state.Goals as goal
 

@@ -1,8 +1,8 @@
-use Rattle.std.proofs.Common.{◌≡◌, ℕ, ◌+◌, ◌*◌, ◌<◌, ◌≤◌, [], slice_index, slice_index_or, inl, inr, ap, ◌∙◌, arith}
+use Rattle.std.proofs.Common.{◌≡◌, ℕ, ◌*◌, ◌<◌, slice_index, inl, inr, ap, ◌∙◌, arith}
 use Rattle.std.proofs.lemmas.Bool.{cases_lt}
 use Rattle.sha2.specs.Sha256.{word_at}
-use Rattle.bv_lanes.specs.Lanes.{lane_word, lane_words}
-use Rattle.bv_lanes.specs.Messages.{IsMessage, message_at, piece_of}
+use Rattle.bv_lanes.specs.Lanes.{lane_word}
+use Rattle.bv_lanes.specs.Messages.{IsMessage, message_at}
 use Rattle.bv_lanes.proofs.PieceLemmas.{each_of_three, in_block, in_prefix, lane_words_at}
 use Rattle.bv_lanes.proofs.pieces.put_first_words.Goals as goal
 

@@ -1,6 +1,6 @@
-use Rattle.std.proofs.Common.{◌≡◌, ℕ, ◌+◌, ◌-◌, ◌*◌, ◌<◌, ◌≤◌, [], slice_index, slice_index_or, slice_set, replicate, inl, inr, ap, ◌∙◌, arith}
+use Rattle.std.proofs.Common.{◌≡◌, ℕ, ◌-◌, ◌*◌, ◌<◌, ◌≤◌, slice_index, slice_set, replicate, inr, ap, ◌∙◌, arith}
 use Rattle.sha2.specs.Sha256.{padding, word_at}
-use Rattle.bv_lanes.specs.Lanes.{lane_word, lane_words}
+use Rattle.bv_lanes.specs.Lanes.{lane_word}
 use Rattle.bv_lanes.specs.Messages.{message_at, piece_of}
 use Rattle.bv_lanes.proofs.PieceLemmas.{each_word, in_block, in_padding, lane_words_at}
 use Rattle.bv_lanes.proofs.pieces.put_last_words.Goals as goal

@@ -1,4 +1,4 @@
-use Rattle.std.proofs.Common.{◌+◌, ◌*◌, ◌∙◌, arith}
+use Rattle.std.proofs.Common.{◌∙◌, arith}
 use Rattle.bv_lanes.specs.Messages.{message_at}
 use Rattle.bv_lanes.proofs.PieceLemmas.{in_block, lane_words_at}
 use Rattle.bv_lanes.proofs.pieces.put_middle_words.Goals as goal

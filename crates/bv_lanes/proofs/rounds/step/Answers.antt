@@ -1,7 +1,7 @@
-use Rattle.std.proofs.Common.{◌≡◌, ◌+◌, ◌-◌, ◌*◌, ◌%◌, slice_index, ap, refl, sym, ◌∙◌, arith}
-use Rattle.sha2.specs.Sha256.{round, round_constants, rounds, schedule}
+use Rattle.std.proofs.Common.{◌≡◌, ◌+◌, ◌-◌, ◌*◌, ◌%◌, slice_index, ap, sym, ◌∙◌, arith}
+use Rattle.sha2.specs.Sha256.{round, round_constants, schedule}
 use Rattle.sha2.proofs.Schedule256.{rounds_next}
-use Rattle.bv_lanes.specs.Lanes.{lane_state, lane_words}
+use Rattle.bv_lanes.specs.Lanes.{lane_words}
 use Rattle.bv_lanes.proofs.PieceLemmas.{lane_words_at}
 use Rattle.bv_lanes.proofs.rounds.step.Goals as goal
 

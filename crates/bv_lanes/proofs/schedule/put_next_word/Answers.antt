@@ -1,6 +1,6 @@
-use Rattle.std.proofs.Common.{◌≡◌, ◌+◌, ◌*◌, ◌/◌, ◌%◌, List, ℕ, slice_index, slice_set, ap, sym, subst, ◌∙◌, arith}
+use Rattle.std.proofs.Common.{◌≡◌, ◌+◌, ◌*◌, ◌/◌, slice_index, slice_set, ap, sym, ◌∙◌, arith}
 use Rattle.std.proofs.lemmas.List.{map-set}
-use Rattle.sha2.specs.Sha256.{IsWindow, schedule, window_word}
+use Rattle.sha2.specs.Sha256.{schedule, window_word}
 use Rattle.sha2.proofs.Schedule256.{IsWindow_next, window_word_at, window_word_place}
 use Rattle.bv_lanes.specs.Lanes.{lane_words}
 use Rattle.bv_lanes.proofs.schedule.put_next_word.Goals as goal

@@ -1,4 +1,4 @@
-use Rattle.std.proofs.Common.{ℕ, ◌++◌, ◌-◌, drop, length, replicate, ap, ◌∙◌}
+use Rattle.std.proofs.Common.{ℕ, ◌++◌, drop, length, replicate, ap, ◌∙◌}
 use Rattle.std.proofs.lemmas.List.{drop-replicate}
 use Rattle.bv_merkle.proofs.window.filled.Goals as goal
 

@@ -15,5 +15,5 @@ returns c i lt =
     c.as_chunks.ensures.front c.as_chunks.ensures.back all (omega (arith, messages.eight, all, c.requires.window)) (omega (arith, lt, all))
     (λ k low. messages.whole k (omega (arith, many, low)))
     (λ far. messages.last i (omega (arith, many, far)) (omega (arith, lt, all, c.requires.window))
-        ∙ (λ t. heading 0 (c.args.offset + 8192 * many t) (length rest) ++ c.filled-last.ensures t))
+    ∙ (λ t. heading 0 (c.args.offset + 8192 * many t) (length rest) ++ c.filled-last.ensures t))
     refl c.digests.ensures)
