@@ -3,15 +3,19 @@
 
 mod command;
 mod lines;
+mod number;
 mod refusal;
 mod root;
 mod serve;
 mod status;
 #[cfg(test)]
 mod tests;
+mod volume_fault;
 
 pub use command::Command;
 pub use lines::{print, refuse};
-pub use refusal::Refusal;
+pub use number::read_number;
+pub use refusal::{Line, Refusal};
 pub use serve::run;
 pub use status::Status;
+pub use volume_fault::VolumeFault;

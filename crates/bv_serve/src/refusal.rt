@@ -2,8 +2,12 @@
 ghost use Rattle.std.specs.Prelude.{◌≡◌};
 ghost use Rattle.bv_serve.specs.declared.refusal.Refusal.TheVariants.{SourceFault};
 
-use crate::Status;
+use crate::{Status, VolumeFault};
+use arrayvec::ArrayString;
 use bv_io::Failed;
+
+/// A line that is put together without memory.
+pub type Line = ArrayString<192>;
 
 /// Why a run has no result. Each has one line and one status.
 #[derive(Clone, Copy, Debug, PartialEq, Eq)]
@@ -14,6 +18,10 @@ pub enum Refusal {
     TooLong,
     /// The source failed.
     SourceFault,
+    /// The device failed, or there is none.
+    DeviceFault,
+    /// There is no volume, or none can be made.
+    Volume(VolumeFault),
     /// There was no memory.
     NoMemory,
 }
@@ -30,17 +38,25 @@ impl Refusal {
     ghost use Rattle.bv_serve.specs.Lines.{refusal_line, refusal_status};
 
     /// The line that is written, with its newline.
-    pub fn line(self) -> &'static str
-        ensures { result.now ≡ refusal_line self }
+    pub fn line(self) -> Line
+        ensures { result.bytes ≡ refusal_line self }
     {
+        let mut line = Line::new();
         match self {
-            Refusal::Usage => {
-                "usage: root | format B N J | format2 B N J | list | check | recover | upgrade | script | fresh B N J | fresh2 B N J | demo N | collect | deliver\n"
+            Refusal::Usage => line.push_str(
+                "usage: root | format B N J | format2 B N J | list | check | recover | upgrade | script | fresh B N J | fresh2 B N J | demo N | collect | deliver\n",
+            ),
+            Refusal::TooLong => line.push_str("input: too long\n"),
+            Refusal::SourceFault => line.push_str("source: fault\n"),
+            Refusal::DeviceFault => line.push_str("device: fault\n"),
+            Refusal::Volume(fault) => {
+                line.push_str("volume: ");
+                fault.write(&mut line);
+                line.push_str("\n");
             }
-            Refusal::TooLong => "input: too long\n",
-            Refusal::SourceFault => "source: fault\n",
-            Refusal::NoMemory => "memory: none left\n",
+            Refusal::NoMemory => line.push_str("memory: none left\n"),
         }
+        line
     }
 
     /// The status of the run.
@@ -51,6 +67,8 @@ impl Refusal {
             Refusal::Usage => Status::Usage,
             Refusal::TooLong => Status::Input,
             Refusal::SourceFault => Status::Source,
+            Refusal::DeviceFault => Status::Device,
+            Refusal::Volume(_) => Status::Volume,
             Refusal::NoMemory => Status::Memory,
         }
     }

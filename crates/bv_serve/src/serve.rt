@@ -23,6 +23,7 @@ pub fn run<S: Source, K: Sink>(
 {
     match Command::parse(words) {
         Some(Command::Root) => root(input, out),
+        Some(Command::Format(_)) => refuse(out, Refusal::Usage),
         None => refuse(out, Refusal::Usage),
     }
 }
