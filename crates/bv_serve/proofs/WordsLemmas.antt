@@ -1,11 +1,12 @@
 -- Words and the written forms.
-use Rattle.std.proofs.Common.{◌≡◌, ℕ, ◌<◌, ◌≤◌, List, [], ◌∷◌, length, map, get_or, Result, Ok, arith, ap, refl, sym, ◌∙◌}
-use Rattle.std.proofs.lemmas.Fmt.{parse-decimal}
+use Rattle.std.proofs.Common.{◌≡◌, ℕ, zero, suc, ◌<◌, ◌≤◌, List, [], ◌∷◌, length, map, get_or, Result, Ok, arith, true, false, ◌==◌, ap, refl, sym, ◌∙◌}
+use Rattle.std.proofs.lemmas.Fmt.{parse-decimal, decimal_injective}
 use Rattle.std.specs.Str.Parse.{ParsesUnsigned}
 use Rattle.spec_record.specs.declared.geometry.Geometry.{Geometry}
+use Rattle.spec_record.specs.Tests.{IsBetween}
 use Rattle.bv_serve.specs.declared.command.Command.{Command}
 use Rattle.bv_serve.specs.declared.command.Command.TheVariants.{Root, Format}
-use Rattle.bv_serve.specs.Words.{IsNumber, IsFormatWord, IsForm, written_form}
+use Rattle.bv_serve.specs.Words.{IsNumber, IsFormatWord, IsForm, written_form, format_word}
 
 -- a list of one word, by the function that reads it
 pub map-one : {A : Type 0} (text_of : A → List ℕ) (words : List A) (word : A) (text : List ℕ) → 1 ≤ length words → length words < 2
@@ -54,3 +55,30 @@ format_form a b c d g name blocks nodes journal = record {
   written = simp (name.is, blocks.written, nodes.written, journal.written) refl;
   can = record { version = name.known; blocks = blocks.short; nodes = nodes.short; journal = journal.short };
 }
+
+-- the two forms are not one another's
+pub root-not-format : (words : List (List ℕ)) (g : Geometry) → IsForm words Root → IsForm words (Format g) → ⊥
+root-not-format words g p q = absurd (cc (p.written, q.written))
+
+-- a version has a word of its own
+format_word-injective : (v w : ℕ) → IsBetween 1 v 2 → IsBetween 1 w 2 → format_word v ≡ format_word w → v ≡ w
+format_word-injective zero w p q e = absurd (omega (arith, p.from_low))
+format_word-injective (suc zero) zero p q e = absurd (omega (arith, q.from_low))
+format_word-injective (suc zero) (suc zero) p q e = refl
+format_word-injective (suc zero) (suc (suc zero)) p q e = absurd (cc e)
+format_word-injective (suc zero) (suc (suc (suc w))) p q e = absurd (omega (arith, q.to_high))
+format_word-injective (suc (suc zero)) zero p q e = absurd (omega (arith, q.from_low))
+format_word-injective (suc (suc zero)) (suc zero) p q e = absurd (cc e)
+format_word-injective (suc (suc zero)) (suc (suc zero)) p q e = refl
+format_word-injective (suc (suc zero)) (suc (suc (suc w))) p q e = absurd (omega (arith, q.to_high))
+format_word-injective (suc (suc (suc v))) w p q e = absurd (omega (arith, p.to_high))
+
+-- words that make a volume say which counts it has
+pub format-unique : (words : List (List ℕ)) (g h : Geometry) → IsForm words (Format g) → IsForm words (Format h) → g ≡ h
+format-unique words g h p q =
+    let same : written_form (Format g) ≡ written_form (Format h) = sym p.written ∙ q.written in
+    let b : g.blocks ≡ h.blocks = decimal_injective _ _ (omega (arith, p.can.blocks)) (omega (arith, q.can.blocks)) (cc same) in
+    let n : g.nodes ≡ h.nodes = decimal_injective _ _ (omega (arith, p.can.nodes)) (omega (arith, q.can.nodes)) (cc same) in
+    let j : g.journal ≡ h.journal = decimal_injective _ _ (omega (arith, p.can.journal)) (omega (arith, q.can.journal)) (cc same) in
+    let v : g.version ≡ h.version = format_word-injective _ _ p.can.version q.can.version (cc same) in
+    λ i. record { blocks = b i; nodes = n i; journal = j i; version = v i }

@@ -3,4 +3,5 @@ pub mod Words
 pub mod Lines
 pub mod Runs
 pub mod Root
+pub mod Format
 pub mod Serves

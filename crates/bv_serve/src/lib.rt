@@ -1,7 +1,9 @@
-//! The top call: a command's words, a source and a sink in; a status and the printed lines out.
+//! The top call: a command's words, a device, a source and a sink in; a status, the device and the
+//! printed lines out.
 #![tactic(auto)]
 
 mod command;
+mod format;
 mod lines;
 mod number;
 mod refusal;
@@ -16,6 +18,6 @@ pub use command::Command;
 pub use lines::{print, refuse};
 pub use number::read_number;
 pub use refusal::{Line, Refusal};
-pub use serve::run;
+pub use serve::{run, run_plain};
 pub use status::Status;
 pub use volume_fault::VolumeFault;

@@ -1,29 +1,77 @@
 //! The top call.
-ghost use Rattle.std.specs.Prelude.{map, string_bytes};
+ghost use Rattle.std.specs.Prelude.{◌≡◌, map, string_bytes};
+ghost use Rattle.bv_format.specs.Formats.{view};
 ghost use Rattle.bv_serve.specs.Runs.{change};
-ghost use Rattle.bv_serve.specs.Serves.{Serves};
+ghost use Rattle.bv_serve.specs.Serves.{Serves, LeavesDevice};
 
+use crate::format::format;
 use crate::lines::refuse;
 use crate::root::root;
 use crate::{Command, Refusal, Status};
+use bv_device::Device;
 use bv_io::{Sink, Source};
 use std::alloc::Global;
 
-/// Does what the words ask for: reads `input`, writes the result or the line of a refusal to `out`,
-/// and says how it ended. What is printed, and when each status comes, is `Serves`.
-pub fn run<S: Source, K: Sink>(
+/// Does what the words ask for, on the device: reads `input`, writes the result or the line of a
+/// refusal to `out`, and says how it ended. What is printed, what becomes of the device, and when
+/// each status comes, is `Serves`.
+pub fn run<D: Device, S: Source, K: Sink>(
+    alloc: Global,
+    words: &[String],
+    dev: D,
+    input: &mut S,
+    out: &mut K,
+) -> (Status, D)
+    ensures serves { Serves (map string_bytes words.now) result.0
+        (view (D.told dev) (D.block_count dev) (D.calls_made dev) (D.fault_count dev))
+        (view (D.told result.1) (D.block_count result.1) (D.calls_made result.1)
+            (D.fault_count result.1))
+        (change (S.left input.old) (S.left input.new) (S.faults input.old) (S.faults input.new))
+        (change (K.given out.old) (K.given out.new) (K.faults out.old) (K.faults out.new)) }
+    ensures untouched { LeavesDevice (map string_bytes words.now) result.0 → result.1 ≡ dev }
+{
+    run_plain(alloc, words, dev, input, out)
+}
+
+/// The commands that need no threads. Other words are its usage refusal. It waits for nobody.
+pub fn run_plain<D: Device, S: Source, K: Sink>(
     _alloc: Global,
     words: &[String],
+    mut dev: D,
+    input: &mut S,
+    out: &mut K,
+) -> (Status, D)
+    ensures serves { Serves (map string_bytes words.now) result.0
+        (view (D.told dev) (D.block_count dev) (D.calls_made dev) (D.fault_count dev))
+        (view (D.told result.1) (D.block_count result.1) (D.calls_made result.1)
+            (D.fault_count result.1))
+        (change (S.left input.old) (S.left input.new) (S.faults input.old) (S.faults input.new))
+        (change (K.given out.old) (K.given out.new) (K.faults out.old) (K.faults out.new)) }
+    ensures untouched { LeavesDevice (map string_bytes words.now) result.0 → result.1 ≡ dev }
+{
+    let status = obey(words, &mut dev, input, out);
+    (status, dev)
+}
+
+/// Does what the words ask for.
+fn obey<D: Device, S: Source, K: Sink>(
+    words: &[String],
+    dev: &mut D,
     input: &mut S,
     out: &mut K,
 ) -> Status
-    ensures { Serves (map string_bytes words.now) result
+    ensures serves { Serves (map string_bytes words.now) result
+        (view (D.told dev.old) (D.block_count dev.old) (D.calls_made dev.old)
+            (D.fault_count dev.old))
+        (view (D.told dev.new) (D.block_count dev.new) (D.calls_made dev.new)
+            (D.fault_count dev.new))
         (change (S.left input.old) (S.left input.new) (S.faults input.old) (S.faults input.new))
         (change (K.given out.old) (K.given out.new) (K.faults out.old) (K.faults out.new)) }
+    ensures untouched { LeavesDevice (map string_bytes words.now) result → dev.new ≡ dev.old }
 {
     match Command::parse(words) {
         Some(Command::Root) => root(input, out),
-        Some(Command::Format(_)) => refuse(out, Refusal::Usage),
+        Some(Command::Format(geometry)) => format(dev, geometry, out),
         None => refuse(out, Refusal::Usage),
     }
 }

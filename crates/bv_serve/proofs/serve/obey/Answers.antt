@@ -1,0 +1,15 @@
+use Rattle.std.proofs.Common.{refl, subst}
+use Rattle.bv_serve.specs.Words.{IsForm}
+use Rattle.std.proofs.KnownBytes.{Keeps-refl}
+use Rattle.bv_serve.proofs.ServesLemmas.{Serves-format, Serves-refused}
+use Rattle.bv_serve.proofs.serve.obey.Goals as goal
+
+pub returns-in-Some-Format-clause-serves : goal.returns-in-Some-Format-clause-serves
+returns-in-Some-Format-clause-serves g c =
+    Serves-format _ c.in-Some-Format.geometry c.format.result _ _ _ _ (subst (IsForm _) c.in-Some-Format.field-0-is c.in-Some-Format.ensures.some)
+    (c.format.ensures.runs _ (record { left = Keeps-refl _; kept = refl })) c.format.ensures.complete
+
+pub returns-in-None-clause-serves : goal.returns-in-None-clause-serves
+returns-in-None-clause-serves g c =
+    Serves-refused _ c.refuse.result _ _ _ _ c.in-None.ensures.none c.refuse.ensures.status
+    (record { left = Keeps-refl _; kept = refl }) c.refuse.ensures.line

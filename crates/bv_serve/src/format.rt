@@ -1,0 +1,60 @@
+//! The commands `format` and `format2`: they make a volume without a blob.
+ghost use Rattle.std.specs.Prelude.{◌≡◌, ◌≤◌, Ok};
+ghost use Rattle.spec_faults.specs.Faults.{Rose};
+ghost use Rattle.spec_record.specs.Geometry.{total_blocks};
+ghost use Rattle.spec_record.specs.Tests.{IsBetween};
+ghost use Rattle.bv_layout.specs.Counts.{counts_or_fault};
+ghost use Rattle.bv_format.specs.Formats.{view};
+ghost use Rattle.bv_serve.specs.declared.status.Status.TheVariants as status;
+ghost use Rattle.bv_serve.specs.Format.{refusal_of, RunsFormat};
+ghost use Rattle.bv_serve.specs.Runs.{Change, LeavesAlone, change};
+
+use crate::lines::{print, refuse};
+use crate::{Refusal, Status, VolumeFault};
+use bv_device::Device;
+use bv_format::FormatFault;
+use bv_io::Sink;
+use spec_record::Geometry;
+
+/// What is printed where a volume was made.
+const FORMATTED: &str = "formatted\n";
+
+/// Makes a volume of these counts on the device, and says so.
+pub(crate) fn format<D: Device, K: Sink>(
+    dev: &mut D,
+    geometry: Geometry,
+    out: &mut K,
+) -> Status
+    requires { IsBetween 1 geometry.version 2 }
+    ensures runs { (input : Change) → LeavesAlone input → RunsFormat geometry result
+        (view (D.told dev.old) (D.block_count dev.old) (D.calls_made dev.old)
+            (D.fault_count dev.old))
+        (view (D.told dev.new) (D.block_count dev.new) (D.calls_made dev.new)
+            (D.fault_count dev.new))
+        input (change (K.given out.old) (K.given out.new) (K.faults out.old) (K.faults out.new)) }
+    ensures complete { counts_or_fault geometry ≡ Ok tt
+        → total_blocks geometry ≤ D.block_count dev.old
+        → ¬ Rose (D.fault_count dev.old) (D.fault_count dev.new)
+        → ¬ Rose (K.faults out.old) (K.faults out.new) → result ≡ status.Ok }
+    ensures untouched { result ≡ status.Volume → dev.new ≡ dev.old }
+{
+    match bv_format::format(dev, geometry) {
+        Ok(()) => print(out, FORMATTED.as_bytes()),
+        Err(fault) => refuse(out, refusal_of(fault)),
+    }
+}
+
+/// Why the run is refused where no volume was made.
+fn refusal_of(fault: FormatFault) -> Refusal
+    ensures { result ≡ refusal_of fault }
+{
+    match fault {
+        FormatFault::Counts { field, value } => {
+            Refusal::Volume(VolumeFault::Counts { field, value })
+        }
+        FormatFault::ShortDevice { wanted, has } => {
+            Refusal::Volume(VolumeFault::Short { wanted, has })
+        }
+        FormatFault::DeviceFault { .. } => Refusal::DeviceFault,
+    }
+}
