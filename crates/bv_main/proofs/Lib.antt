@@ -1,0 +1,2 @@
+-- Lemmas on the words that name devices.
+pub mod DeviceLemmas

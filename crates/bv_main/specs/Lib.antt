@@ -1,0 +1,4 @@
+-- The words of the program, and the device that a file is.
+pub mod Devices
+pub mod Files
+pub mod Program

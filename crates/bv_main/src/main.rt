@@ -1,13 +1,20 @@
-//! The program: standard input and output and the words of the command line, for the top call.
+//! The program: standard input and output, files, and the words of the command line, for the top
+//! call.
 #![tactic(auto)]
 
+mod device_word;
+mod disk_files;
+mod file_device;
+mod host_files;
 mod program;
 mod reader_source;
+mod request;
 #[cfg(test)]
 mod tests;
 mod texts;
 mod writer_sink;
 
+use crate::host_files::HostFiles;
 use crate::program::answer;
 use crate::reader_source::ReaderSource;
 use crate::writer_sink::WriterSink;
@@ -25,7 +32,11 @@ fn main(rt: HostRuntime) -> ExitCode {
 // Runs the program with what it writes handed in.
 fn run_program<K: Sink>(rt: &HostRuntime, out: &mut K) -> Status {
     match words(rt) {
-        Ok(words) => answer(rt.alloc(), &words, &mut ReaderSource::new(rt.stdin()), out),
+        Ok(words) => {
+            let mut files = HostFiles::new(rt);
+            let mut input = ReaderSource::new(rt.stdin());
+            answer(rt.alloc(), &words, &mut files, &mut input, out)
+        }
         Err(error) if error.kind() == ErrorKind::OutOfMemory => refuse(out, Refusal::NoMemory),
         // A word that isn't UTF-8 is part of no command.
         Err(_) => refuse(out, Refusal::Usage),

@@ -1,35 +1,115 @@
-//! What the program answers by itself, above the top call.
-ghost use Rattle.std.specs.Prelude.{◌≡◌, ◌≢◌, [], ◌∷◌, map, string_bytes, codes};
-ghost use Rattle.bv_serve.specs.Runs.{change, PrintsAt};
-ghost use Rattle.bv_serve.specs.Serves.{Serves};
+//! What the program answers, its streams and what opens its files handed in.
+ghost use Rattle.std.specs.Prelude.{◌≡◌, ◌⊎◌, map, string_bytes};
+ghost use Rattle.spec_faults.specs.Faults.{CountsFaults};
+ghost use Rattle.bv_format.specs.Formats.{view};
+ghost use Rattle.bv_serve.specs.Runs.{change};
+ghost use Rattle.bv_serve.specs.declared.refusal.Refusal.TheVariants as refusal;
+ghost use Rattle.bv_main.specs.declared.request.Request.{Request};
+ghost use Rattle.bv_main.specs.Devices.{HasFileRoom};
+ghost use Rattle.bv_main.specs.Program.{Asks, AsksNothing, IsRefused, RunsOn, RunsOnWord, Does};
 
+use crate::device_word::DeviceWord;
+use crate::disk_files::DiskFiles;
+use crate::request::Request;
 use crate::texts::{HELP, VERSION};
+use bv_device::{Device, MemDevice};
 use bv_io::{Sink, Source};
-use bv_serve::{Status, print, run};
+use bv_serve::{Refusal, Status, print, refuse, run};
 use std::alloc::Global;
 
-/// Prints the help or the version where that is the only word, and else makes the top call.
-pub fn answer<S: Source, K: Sink>(
+/// Prints the help or the version where that is the only word, and else makes the top call on the
+/// device that the words name. Words of no form are refused before a file is opened or made.
+pub fn answer<F: DiskFiles, S: Source, K: Sink>(
     alloc: Global,
     words: &[String],
+    files: &mut F,
     input: &mut S,
     out: &mut K,
 ) -> Status
-    ensures help { map string_bytes words.now ≡ codes "--help" ∷ [] → PrintsAt result
-        (change (K.given out.old) (K.given out.new) (K.faults out.old) (K.faults out.new))
-        HELP.now }
-    ensures version { map string_bytes words.now ≡ codes "--version" ∷ [] → PrintsAt result
-        (change (K.given out.old) (K.given out.new) (K.faults out.old) (K.faults out.new))
-        VERSION.now }
-    ensures served { map string_bytes words.now ≢ codes "--help" ∷ []
-        → map string_bytes words.now ≢ codes "--version" ∷ []
-        → Serves (map string_bytes words.now) result
+    ensures {
+        (AsksNothing (map string_bytes words.now) × (files.new ≡ files.old)
+            × IsRefused refusal.Usage result
+            (change (S.left input.old) (S.left input.new) (S.faults input.old)
+                (S.faults input.new))
+            (change (K.given out.old) (K.given out.new) (K.faults out.old) (K.faults out.new)))
+        ⊎ ((request : Request) × Asks (map string_bytes words.now) request
+            × Does (λ dev. view (F.Disk.told dev) (F.Disk.block_count dev)
+                (F.Disk.calls_made dev) (F.Disk.fault_count dev))
+            (files.new ≡ files.old)
+            (λ path made. F.open_gives files.old path made files.new
+                × CountsFaults (F.fault_count files.old) (F.fault_count files.new) made)
+            (λ blocks path made. F.make_gives files.old blocks path made files.new
+                × CountsFaults (F.fault_count files.old) (F.fault_count files.new) made)
+            HELP.now VERSION.now request result
+            (change (S.left input.old) (S.left input.new) (S.faults input.old)
+                (S.faults input.new))
+            (change (K.given out.old) (K.given out.new) (K.faults out.old) (K.faults out.new))) }
+{
+    match Request::parse(words) {
+        Some(Request::Help) => print(out, HELP.as_bytes()),
+        Some(Request::Version) => print(out, VERSION.as_bytes()),
+        Some(Request::Root) => {
+            let no_blocks = MemDevice::from_blocks(alloc, Vec::new(alloc));
+            run_on(alloc, words, no_blocks, input, out)
+        }
+        Some(Request::On { device, command }) => {
+            run_on_word(alloc, device, command, files, input, out)
+        }
+        None => refuse(out, Refusal::Usage),
+    }
+}
+
+/// Makes the top call on the device that a word names.
+fn run_on_word<F: DiskFiles, S: Source, K: Sink>(
+    alloc: Global,
+    device: DeviceWord<'_>,
+    command: &[String],
+    files: &mut F,
+    input: &mut S,
+    out: &mut K,
+) -> Status
+    requires { HasFileRoom device }
+    ensures { RunsOnWord (λ dev. view (F.Disk.told dev) (F.Disk.block_count dev)
+            (F.Disk.calls_made dev) (F.Disk.fault_count dev))
+        (files.new ≡ files.old)
+        (λ path made. F.open_gives files.old path made files.new
+            × CountsFaults (F.fault_count files.old) (F.fault_count files.new) made)
+        (λ blocks path made. F.make_gives files.old blocks path made files.new
+            × CountsFaults (F.fault_count files.old) (F.fault_count files.new) made)
+        device.entry (map string_bytes command.now) result
         (change (S.left input.old) (S.left input.new) (S.faults input.old) (S.faults input.new))
         (change (K.given out.old) (K.given out.new) (K.faults out.old) (K.faults out.new)) }
 {
-    match words {
-        [word] if word.as_str() == "--help" => print(out, HELP.as_bytes()),
-        [word] if word.as_str() == "--version" => print(out, VERSION.as_bytes()),
-        _ => run(alloc, words, input, out),
+    match device {
+        DeviceWord::Mem { blocks } => match MemDevice::new(alloc, blocks) {
+            Ok(dev) => run_on(alloc, command, dev, input, out),
+            Err(_) => refuse(out, Refusal::NoMemory),
+        },
+        DeviceWord::New { blocks, path } => match files.make(blocks, path) {
+            Ok(dev) => run_on(alloc, command, dev, input, out),
+            Err(_) => refuse(out, Refusal::DeviceFault),
+        },
+        DeviceWord::File { path } => match files.open(path) {
+            Ok(dev) => run_on(alloc, command, dev, input, out),
+            Err(_) => refuse(out, Refusal::DeviceFault),
+        },
     }
+}
+
+/// Makes the top call on a device, which nobody wants afterwards.
+fn run_on<D: Device + Drop, S: Source, K: Sink>(
+    alloc: Global,
+    command: &[String],
+    dev: D,
+    input: &mut S,
+    out: &mut K,
+) -> Status
+    ensures { RunsOn
+        (view (D.told dev) (D.block_count dev) (D.calls_made dev) (D.fault_count dev))
+        (map string_bytes command.now) result
+        (change (S.left input.old) (S.left input.new) (S.faults input.old) (S.faults input.new))
+        (change (K.given out.old) (K.given out.new) (K.faults out.old) (K.faults out.new)) }
+{
+    let (status, _) = run(alloc, command, dev, input, out);
+    status
 }

@@ -1,0 +1,32 @@
+//! What opens and makes the files that device words name.
+ghost use Rattle.std.specs.Prelude.{◌<◌, ◌^◌, ℕ, List, Result};
+ghost use Rattle.spec_faults.specs.Faults.{CountsFaults};
+ghost use Rattle.bv_device.specs.declared.failed.Failed.{Failed};
+
+use bv_device::{Device, Failed};
+
+/// Opens and makes files of blocks.
+pub trait DiskFiles {
+    /// An open file.
+    type Disk: Device + Drop;
+
+    /// What came of opening this path, and what is left of `self`.
+    ghost open_gives: { Self → List ℕ → Result Self.Disk Failed → Self → Type 0 };
+
+    /// What came of making a file of so many blocks at this path.
+    ghost make_gives: { Self → ℕ → List ℕ → Result Self.Disk Failed → Self → Type 0 };
+
+    /// How many calls have failed. It never falls.
+    ghost fault_count: { Self → ℕ };
+
+    /// Opens a file that is there, to read and to write it.
+    fn open(&mut self, path: &str) -> Result<Self::Disk, Failed>
+        ensures gives { open_gives self.old path.now result self.new }
+        ensures faults { CountsFaults (fault_count self.old) (fault_count self.new) result };
+
+    /// Makes a file of so many zero blocks where there is none.
+    fn make(&mut self, blocks: u64, path: &str) -> Result<Self::Disk, Failed>
+        requires { blocks < 2 ^ 51 }
+        ensures gives { make_gives self.old blocks path.now result self.new }
+        ensures faults { CountsFaults (fault_count self.old) (fault_count self.new) result };
+}

@@ -1,0 +1,105 @@
+//! A file as a device of blocks.
+ghost use Rattle.std.specs.Prelude.{◌≡◌, ◌<◌, ◌^◌, None};
+
+use bv_device::{Block, Device, Failed, LAST_CALL};
+use std::fs::OpenFile;
+use std::marker::Model;
+use std::os::unix::fs::FileExt;
+
+/// The bytes of a block.
+pub const BLOCK: u64 = 8192;
+
+/// The whole blocks of an open file. What lies behind them is never touched.
+///
+/// Each call is one positioned read or write of a block, or a sync of the file's data. It knows
+/// nothing of the bytes: what the file holds, and what of it lasts, is the system's.
+#[derive(Drop)]
+pub struct FileDevice<F> {
+    file: F,
+    blocks: u64,
+    calls: u64,
+    faults: u64,
+}
+
+impl<F> Model for FileDevice<F> {
+    ghost use Rattle.std.specs.Prelude.{◌<◌, ◌^◌};
+    ghost use Rattle.bv_main.specs.Files.{FileBlocks};
+
+    ghost Value = { FileBlocks };
+
+    ghost view = { λ d. record { blocks = d.blocks; calls = d.calls; faults = d.faults } };
+
+    ghost invariant = { λ d. (d.blocks < 2 ^ 51) × (d.calls < 2 ^ 63) };
+}
+
+impl<F> FileDevice<F> {
+    /// A file that has so many blocks, or more.
+    pub fn new(file: F, blocks: u64) -> FileDevice<F>
+        requires { blocks < 2 ^ 51 }
+        ensures { result ≡ record { blocks = blocks; calls = 0; faults = 0 } }
+    {
+        FileDevice {
+            file,
+            blocks,
+            calls: 0,
+            faults: 0,
+        }
+    }
+}
+
+impl<F: FileExt + OpenFile> Device for FileDevice<F> {
+    ghost told = { λ _. None };
+
+    ghost block_count = { λ d. d.blocks };
+
+    ghost calls_made = { λ d. d.calls };
+
+    ghost fault_count = { λ d. d.faults };
+
+    ghost told_blocks = { λ _. tt };
+
+    ghost told_calls = { λ _. tt };
+
+    fn blocks(&self) -> u64 {
+        self.blocks
+    }
+
+    fn calls(&self) -> u64 {
+        self.calls
+    }
+
+    fn faults(&self) -> u64 {
+        self.faults
+    }
+
+    fn read(&mut self, at: u64, into: &mut Block) -> Result<(), Failed> {
+        if self.file.read_exact_at(into, at * BLOCK).is_ok() {
+            return Ok(());
+        }
+        self.faults = self.faults.saturating_add(1);
+        Err(Failed)
+    }
+
+    // A write that failed may have changed part of the block, so it counts as made.
+    fn write(&mut self, at: u64, from: &Block) -> Result<(), Failed> {
+        if self.calls < LAST_CALL {
+            self.calls += 1;
+            if self.file.write_all_at(from, at * BLOCK).is_ok() {
+                return Ok(());
+            }
+        }
+        self.faults = self.faults.saturating_add(1);
+        Err(Failed)
+    }
+
+    fn sync(&mut self) -> Result<(), Failed> {
+        if self.calls < LAST_CALL {
+            self.calls += 1;
+            if self.file.sync_data().is_ok() {
+                return Ok(());
+            }
+        }
+        self.faults = self.faults.saturating_add(1);
+        Err(Failed)
+    }
+}
