@@ -26,24 +26,23 @@ pub fn answer<F: DiskFiles, S: Source, K: Sink>(
     input: &mut S,
     out: &mut K,
 ) -> Status
-    ensures {
-        (AsksNothing (map string_bytes words.now) × (files.new ≡ files.old)
-            × IsRefused refusal.Usage result
-            (change (S.left input.old) (S.left input.new) (S.faults input.old)
-                (S.faults input.new))
-            (change (K.given out.old) (K.given out.new) (K.faults out.old) (K.faults out.new)))
+    ensures { (AsksNothing (map string_bytes words.now) × (files.new ≡ files.old)
+        × IsRefused refusal.Usage result
+        (change (S.left input.old) (S.left input.new) (S.faults input.old)
+        (S.faults input.new))
+        (change (K.given out.old) (K.given out.new) (K.faults out.old) (K.faults out.new)))
         ⊎ ((request : Request) × Asks (map string_bytes words.now) request
-            × Does (λ dev. view (F.Disk.told dev) (F.Disk.block_count dev)
-                (F.Disk.calls_made dev) (F.Disk.fault_count dev))
-            (files.new ≡ files.old)
-            (λ path made. F.open_gives files.old path made files.new
-                × CountsFaults (F.fault_count files.old) (F.fault_count files.new) made)
-            (λ blocks path made. F.make_gives files.old blocks path made files.new
-                × CountsFaults (F.fault_count files.old) (F.fault_count files.new) made)
-            HELP.now VERSION.now request result
-            (change (S.left input.old) (S.left input.new) (S.faults input.old)
-                (S.faults input.new))
-            (change (K.given out.old) (K.given out.new) (K.faults out.old) (K.faults out.new))) }
+        × Does (λ dev. view (F.Disk.told dev) (F.Disk.block_count dev)
+        (F.Disk.calls_made dev) (F.Disk.fault_count dev))
+        (files.new ≡ files.old)
+        (λ path made. F.open_gives files.old path made files.new
+        × CountsFaults (F.fault_count files.old) (F.fault_count files.new) made)
+        (λ blocks path made. F.make_gives files.old blocks path made files.new
+        × CountsFaults (F.fault_count files.old) (F.fault_count files.new) made)
+        HELP.now VERSION.now request result
+        (change (S.left input.old) (S.left input.new) (S.faults input.old)
+        (S.faults input.new))
+        (change (K.given out.old) (K.given out.new) (K.faults out.old) (K.faults out.new))) }
 {
     match Request::parse(words) {
         Some(Request::Help) => print(out, HELP.as_bytes()),
@@ -70,12 +69,12 @@ fn run_on_word<F: DiskFiles, S: Source, K: Sink>(
 ) -> Status
     requires { HasFileRoom device }
     ensures { RunsOnWord (λ dev. view (F.Disk.told dev) (F.Disk.block_count dev)
-            (F.Disk.calls_made dev) (F.Disk.fault_count dev))
+        (F.Disk.calls_made dev) (F.Disk.fault_count dev))
         (files.new ≡ files.old)
         (λ path made. F.open_gives files.old path made files.new
-            × CountsFaults (F.fault_count files.old) (F.fault_count files.new) made)
+        × CountsFaults (F.fault_count files.old) (F.fault_count files.new) made)
         (λ blocks path made. F.make_gives files.old blocks path made files.new
-            × CountsFaults (F.fault_count files.old) (F.fault_count files.new) made)
+        × CountsFaults (F.fault_count files.old) (F.fault_count files.new) made)
         device.entry (map string_bytes command.now) result
         (change (S.left input.old) (S.left input.new) (S.faults input.old) (S.faults input.new))
         (change (K.given out.old) (K.given out.new) (K.faults out.old) (K.faults out.new)) }

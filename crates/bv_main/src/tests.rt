@@ -1,10 +1,17 @@
-//! The adapters over readers and writers, and what the program answers by itself.
+//! The adapters over readers, writers and files, and what the program answers to its words.
+use crate::file_device::FileDevice;
+use crate::host_files::HostFiles;
 use crate::program::answer;
 use crate::reader_source::ReaderSource;
 use crate::writer_sink::WriterSink;
+use bv_device::Device;
 use bv_io::{Failed, MemSink, MemSource, Sink, Source, fill, give_all};
 use bv_serve::Status;
+use std::alloc::{AllocError, Global};
+use std::cell::Cell;
+use std::fs::{self, Metadata, OpenFile};
 use std::io::{self, Error, ErrorKind, Read};
+use std::os::unix::fs::FileExt;
 use std::test::Fail;
 
 // A reader that is interrupted once before each byte, and breaks after the third.
@@ -53,20 +60,151 @@ fn a_writer_is_a_sink_and_one_that_takes_nothing_fails(rt: HostRuntime) {
     assert_eq!(rt; room.as_slice(), [7, 8, 9].as_slice());
 }
 
+// A file that moves half of what it is asked for, is interrupted at every second call, and breaks
+// at one of them.
+#[derive(Drop)]
+struct Restive {
+    calls: Cell<u64>,
+    breaks: u64,
+}
+
+impl Restive {
+    fn step(&self, most: usize) -> io::Result<usize> {
+        let call = self.calls.get().wrapping_add(1);
+        self.calls.set(call);
+        if call == self.breaks {
+            return Err(Error::from(ErrorKind::Other));
+        }
+        if call % 2 == 1 {
+            return Err(Error::from(ErrorKind::Interrupted));
+        }
+        Ok(most.div_ceil(2))
+    }
+}
+
+impl FileExt for Restive {
+    fn read_at(&self, buf: &mut [u8], _offset: u64) -> io::Result<usize> {
+        self.step(buf.len())
+    }
+
+    fn write_at(&self, buf: &[u8], _offset: u64) -> io::Result<usize> {
+        self.step(buf.len())
+    }
+}
+
+impl OpenFile for Restive {
+    fn metadata(&self) -> io::Result<Metadata> {
+        Err(Error::from(ErrorKind::Other))
+    }
+
+    fn set_len(&self, _size: u64) -> io::Result<()> {
+        Err(Error::from(ErrorKind::Other))
+    }
+
+    fn sync_all(&self) -> io::Result<()> {
+        Err(Error::from(ErrorKind::Other))
+    }
+
+    fn sync_data(&self) -> io::Result<()> {
+        self.step(1).map(|_| ())
+    }
+}
+
 #[test]
-fn help_and_version_are_answered_above_the_top_call(rt: HostRuntime) -> Result<(), Fail> {
-    let alloc = rt.alloc();
-    for (word, first_line, want) in [
+fn a_file_counts_each_call_that_fails(rt: HostRuntime) {
+    let mut block = [0; 8192];
+    // A block is moved in 14 halves, each after an interruption.
+    for (breaks, works) in [(1, false), (28, false), (29, true)] {
+        let calls = Cell::new(0);
+        let mut dev = FileDevice::new(Restive { calls, breaks }, 3);
+        assert_eq!(rt; dev.write(2, &block).is_ok(), works, "{breaks}");
+        assert_eq!(rt; (dev.calls(), dev.faults()), (1, !works as u64), "{breaks}");
+        let calls = Cell::new(0);
+        let mut dev = FileDevice::new(Restive { calls, breaks }, 3);
+        assert_eq!(rt; dev.read(2, &mut block).is_ok(), works, "{breaks}");
+        assert_eq!(rt; (dev.calls(), dev.faults()), (0, !works as u64), "{breaks}");
+    }
+    for (breaks, works) in [(2, false), (3, true)] {
+        let calls = Cell::new(1);
+        let mut dev = FileDevice::new(Restive { calls, breaks }, 3);
+        assert_eq!(rt; dev.sync().is_ok(), works, "{breaks}");
+        assert_eq!(rt; (dev.calls(), dev.faults()), (1, !works as u64), "{breaks}");
+    }
+}
+
+// The status of these words, where the program prints what begins so.
+fn answers(rt: &HostRuntime, line: &str, first: &str) -> Result<Option<Status>, AllocError> {
+    let alloc: Global = rt.alloc();
+    let mut words = Vec::new(alloc);
+    for word in line.split_whitespace() {
+        words.push(String::from_str(alloc, word)?)?;
+    }
+    let mut files = HostFiles::new(rt);
+    let mut input = MemSource::new(Vec::new(alloc), Vec::new(alloc));
+    let mut out = MemSink::new(Vec::new(alloc), alloc);
+    let status = answer(alloc, &words, &mut files, &mut input, &mut out);
+    Ok(out.bytes().starts_with(first.as_bytes()).then_some(status))
+}
+
+#[test]
+fn words_are_answered_as_their_forms_say(rt: HostRuntime) -> Result<(), Fail> {
+    let rows = [
         ("--help", "blobfs: a volume of blobs", Status::Ok),
         ("--version", "blobfs 0.1.0\nrattle-kit-", Status::Ok),
         ("root", "15ec7bf0b50732b4", Status::Ok),
+        ("mem:1 root", "15ec7bf0b50732b4", Status::Ok),
         ("help", "usage: root | format B N J |", Status::Usage),
-    ] {
-        let words = vec![in alloc; String::from_str(alloc, word)?]?;
-        let mut input = MemSource::new(Vec::new(alloc), Vec::new(alloc));
-        let mut out = MemSink::new(Vec::new(alloc), alloc);
-        assert_eq!(rt; answer(alloc, &words, &mut input, &mut out), want, "{word}");
-        assert!(rt; out.bytes().starts_with(first_line.as_bytes()), "{word}");
+        ("format 64 128 16", "usage:", Status::Usage),
+        ("mem:0 root", "usage:", Status::Usage),
+        ("mem:065 root", "usage:", Status::Usage),
+        ("mem:65537 root", "usage:", Status::Usage),
+        ("new:8388609:absent.img root", "usage:", Status::Usage),
+        ("new:83 root", "usage:", Status::Usage),
+        ("new:83:absent.img", "usage:", Status::Usage),
+        ("new:83:absent.img format 64 128", "usage:", Status::Usage),
+        ("disk:absent.img root", "usage:", Status::Usage),
+        ("file:absent.img frob", "usage:", Status::Usage),
+        ("file:absent.img root", "device: fault\n", Status::Device),
+        (
+            "new:1:absent/absent.img root",
+            "device: fault\n",
+            Status::Device,
+        ),
+        ("mem:83 format 64 128 16", "formatted\n", Status::Ok),
+        (
+            "mem:82 format 64 128 16",
+            "volume: short 83 82\n",
+            Status::Volume,
+        ),
+    ];
+    for (line, first, want) in rows {
+        assert_eq!(rt; answers(&rt, line, first)?, Some(want), "{line}");
     }
+    assert!(rt; fs::metadata(&rt, "absent.img").is_err());
+    Ok(())
+}
+
+#[test]
+fn a_new_file_is_formatted_and_opened_again(rt: HostRuntime) -> Result<(), Fail> {
+    let status = answers(&rt, "new:83:disk.img format 64 128 16", "formatted\n")?;
+    assert_eq!(rt; status, Some(Status::Ok));
+    let made = fs::read(&rt, "disk.img")?;
+    assert_eq!(rt; made.len(), 83 * 8192);
+    assert!(rt; made.starts_with(b"blobvol\0profile1\x01\0\0\0".as_slice()));
+    let status = answers(&rt, "new:90:disk.img format2 64 128 16", "device: fault\n")?;
+    assert_eq!(rt; status, Some(Status::Device));
+    assert!(rt; fs::read(&rt, "disk.img")? == made);
+    let status = answers(&rt, "file:disk.img format2 64 128 16", "formatted\n")?;
+    assert_eq!(rt; status, Some(Status::Ok));
+    let again = fs::read(&rt, "disk.img")?;
+    assert_eq!(rt; again.len(), 83 * 8192);
+    assert!(rt; again.starts_with(b"blobvol\0profile1\x02\0\0\0".as_slice()));
+    fs::write(&rt, "short.img", "less than a block")?;
+    let status = answers(
+        &rt,
+        "file:short.img format 64 128 16",
+        "volume: short 83 0\n",
+    )?;
+    assert_eq!(rt; status, Some(Status::Volume));
     Ok(())
 }

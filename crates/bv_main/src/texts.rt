@@ -1,16 +1,32 @@
 //! The texts of `--help` and `--version`.
 
 /// The program's version, and the kit that proved and built it, as `rt version` names it.
-pub const VERSION: &str = "blobfs 0.1.0\nrattle-kit-13b logic dac8208d650f15bf\n";
+pub const VERSION: &str = "blobfs 0.1.0\nrattle-kit-13f logic dac8208d650f15bf\n";
 
-/// Every command that there is, the statuses and an example.
+/// Every command that there is, the device words, the statuses and an example.
 pub const HELP: &str =
     "blobfs: a volume of blobs that are written once and named by their Merkle roots
 
 usage:
-  root         print the Merkle root of the input, which has at most 67108864 bytes
-  --help       print this text
-  --version    print the version of the program, and of the kit that built it
+  blobfs root               print the Merkle root of the input, of at most 67108864 bytes
+  blobfs DEVICE COMMAND     do a command on a device
+  blobfs --help             print this text
+  blobfs --version          print the version of the program, and of the kit that built it
+
+commands:
+  root             the same as without a device
+  format B N J     make an empty volume of B data blocks, N nodes and J journal blocks, version 1
+  format2 B N J    the same, version 2
+
+A number is written in decimal digits without a leading zero, at most 18 of them.
+Version 1 has 2 to 1048576 data blocks and 128 to 32768 nodes, version 2 up to 4194304 and 65536.
+The nodes are a multiple of 128. The metadata takes M = 1 + ceil(B / 65536) + N / 128 blocks,
+the journal has M + 3 to 65536, and the device at least M + J + B. A block has 8192 bytes.
+
+devices:
+  mem:BLOCKS         1 to 65536 zero blocks in memory, which are gone afterwards
+  new:BLOCKS:PATH    a new file of 1 to 8388608 zero blocks; a file that is there stays as it is
+  file:PATH          the whole blocks of a file that is there
 
 The exit status is the status:
   0  done
@@ -18,9 +34,12 @@ The exit status is the status:
   2  the input is too long
   3  the input could not be read
   4  the output could not be written
+  5  the device failed, or the file could not be opened or made
+  6  the counts are out of their limits, or the device is too short
   7  there was no memory
-At 1, 2, 3 and 7 one line on standard output says which.
+At 1, 2, 3, 5, 6 and 7 one line on standard output says which.
 
 example:
   printf hi | blobfs root
+  blobfs new:83:disk.img format 64 128 16
 ";

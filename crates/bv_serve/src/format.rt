@@ -20,17 +20,13 @@ use spec_record::Geometry;
 const FORMATTED: &str = "formatted\n";
 
 /// Makes a volume of these counts on the device, and says so.
-pub(crate) fn format<D: Device, K: Sink>(
-    dev: &mut D,
-    geometry: Geometry,
-    out: &mut K,
-) -> Status
+pub(crate) fn format<D: Device, K: Sink>(dev: &mut D, geometry: Geometry, out: &mut K) -> Status
     requires { IsBetween 1 geometry.version 2 }
     ensures runs { (input : Change) → LeavesAlone input → RunsFormat geometry result
         (view (D.told dev.old) (D.block_count dev.old) (D.calls_made dev.old)
-            (D.fault_count dev.old))
+        (D.fault_count dev.old))
         (view (D.told dev.new) (D.block_count dev.new) (D.calls_made dev.new)
-            (D.fault_count dev.new))
+        (D.fault_count dev.new))
         input (change (K.given out.old) (K.given out.new) (K.faults out.old) (K.faults out.new)) }
     ensures complete { counts_or_fault geometry ≡ Ok tt
         → total_blocks geometry ≤ D.block_count dev.old

@@ -25,7 +25,7 @@ pub fn run<D: Device, S: Source, K: Sink>(
     ensures serves { Serves (map string_bytes words.now) result.0
         (view (D.told dev) (D.block_count dev) (D.calls_made dev) (D.fault_count dev))
         (view (D.told result.1) (D.block_count result.1) (D.calls_made result.1)
-            (D.fault_count result.1))
+        (D.fault_count result.1))
         (change (S.left input.old) (S.left input.new) (S.faults input.old) (S.faults input.new))
         (change (K.given out.old) (K.given out.new) (K.faults out.old) (K.faults out.new)) }
     ensures untouched { LeavesDevice (map string_bytes words.now) result.0 → result.1 ≡ dev }
@@ -44,7 +44,7 @@ pub fn run_plain<D: Device, S: Source, K: Sink>(
     ensures serves { Serves (map string_bytes words.now) result.0
         (view (D.told dev) (D.block_count dev) (D.calls_made dev) (D.fault_count dev))
         (view (D.told result.1) (D.block_count result.1) (D.calls_made result.1)
-            (D.fault_count result.1))
+        (D.fault_count result.1))
         (change (S.left input.old) (S.left input.new) (S.faults input.old) (S.faults input.new))
         (change (K.given out.old) (K.given out.new) (K.faults out.old) (K.faults out.new)) }
     ensures untouched { LeavesDevice (map string_bytes words.now) result.0 → result.1 ≡ dev }
@@ -62,9 +62,9 @@ fn obey<D: Device, S: Source, K: Sink>(
 ) -> Status
     ensures serves { Serves (map string_bytes words.now) result
         (view (D.told dev.old) (D.block_count dev.old) (D.calls_made dev.old)
-            (D.fault_count dev.old))
+        (D.fault_count dev.old))
         (view (D.told dev.new) (D.block_count dev.new) (D.calls_made dev.new)
-            (D.fault_count dev.new))
+        (D.fault_count dev.new))
         (change (S.left input.old) (S.left input.new) (S.faults input.old) (S.faults input.new))
         (change (K.given out.old) (K.given out.new) (K.faults out.old) (K.faults out.new)) }
     ensures untouched { LeavesDevice (map string_bytes words.now) result → dev.new ≡ dev.old }

@@ -1,6 +1,7 @@
-//! Runs of the top call over streams in memory. The roots were computed by the definition with
-//! another SHA-256; the bytes of an input count from 0 to 250 and on.
-use crate::{Status, run};
+//! Runs of the top call over a device and streams in memory. The roots were computed by the
+//! definition with another SHA-256; the bytes of an input count from 0 to 250 and on.
+use crate::{Status, run, run_plain};
+use bv_device::{CallKind, Device, MemDevice};
 use bv_io::{MemSink, MemSource, Source, Trickle};
 use std::alloc::{AllocError, Global};
 use std::test::Fail;
@@ -57,8 +58,10 @@ fn root_prints_the_root_of_its_input(rt: HostRuntime) -> Result<(), Fail> {
     for (len, want) in rows {
         let mut input = MemSource::new(counted(alloc, len)?, Vec::new(alloc));
         let mut out = MemSink::new(Vec::new(alloc), alloc);
-        let status = run(alloc, &words, &mut input, &mut out);
+        let dev = MemDevice::new(alloc, 1)?;
+        let (status, dev) = run(alloc, &words, dev, &mut input, &mut out);
         assert_eq!(rt; status, Status::Ok, "{len} bytes");
+        assert_eq!(rt; dev.trace_len(), 0, "{len} bytes");
         assert_eq!(rt; out.bytes(), want.as_bytes(), "{len} bytes");
     }
     Ok(())
@@ -74,11 +77,21 @@ fn words_of_no_written_form_are_refused_and_nothing_is_read(rt: HostRuntime) -> 
         words(alloc, &["Root"])?,
         words(alloc, &["root "])?,
         words(alloc, &["format", "64"])?,
+        words(alloc, &["format", "064", "128", "16"])?,
+        words(alloc, &["format", "64", "128", "16", "1"])?,
+        words(alloc, &["format", "+64", "128", "16"])?,
+        words(alloc, &["format", "64", "", "16"])?,
+        words(alloc, &["format", "64", "128", "1000000000000000000"])?,
+        words(alloc, &["format3", "64", "128", "16"])?,
+        words(alloc, &["demo", "0"])?,
         words(alloc, &["list"])?,
     ] {
         let mut input = MemSource::new(counted(alloc, 3)?, Vec::new(alloc));
         let mut out = MemSink::new(Vec::new(alloc), alloc);
-        assert_eq!(rt; run(alloc, &row, &mut input, &mut out), Status::Usage);
+        let dev = MemDevice::new(alloc, 83)?;
+        let (status, dev) = run(alloc, &row, dev, &mut input, &mut out);
+        assert_eq!(rt; status, Status::Usage);
+        assert_eq!(rt; dev.trace_len(), 0);
         assert_eq!(rt; out.bytes(), USAGE.as_bytes());
         assert_eq!(rt; input.take(&mut [0; 9]), Ok(3));
     }
@@ -112,7 +125,8 @@ fn each_fault_has_its_status_and_line(rt: HostRuntime) -> Result<(), Fail> {
         let mut out = Trickle {
             inner: MemSink::new(vec![in alloc; sink_fails]?, alloc),
         };
-        let status = run(alloc, &words, &mut input, &mut out);
+        let dev = MemDevice::new(alloc, 0)?;
+        let (status, _) = run(alloc, &words, dev, &mut input, &mut out);
         assert_eq!(rt; status, want, "{word}, {source_fails}, {sink_fails}");
         assert_eq!(rt;
             out.inner.bytes(),
@@ -129,7 +143,9 @@ fn one_byte_past_the_limit_is_too_long(rt: HostRuntime) -> Result<(), Fail> {
     let words = words(alloc, &["root"])?;
     let mut input = MemSource::new(vec![in alloc; 0; 67_108_866]?, Vec::new(alloc));
     let mut out = MemSink::new(Vec::new(alloc), alloc);
-    assert_eq!(rt; run(alloc, &words, &mut input, &mut out), Status::Input);
+    let dev = MemDevice::new(alloc, 0)?;
+    let (status, _) = run(alloc, &words, dev, &mut input, &mut out);
+    assert_eq!(rt; status, Status::Input);
     assert_eq!(rt; out.bytes(), "input: too long\n".as_bytes());
     assert_eq!(rt; input.take(&mut [0; 9]), Ok(1));
     Ok(())
@@ -140,4 +156,169 @@ fn the_status_is_the_number_of_the_table(rt: HostRuntime) {
     for (status, code) in [(Status::Ok, 0), (Status::Sink, 4), (Status::Refused, 9)] {
         assert_eq!(rt; status.code(), code);
     }
+}
+
+#[test]
+fn format_makes_a_volume_or_says_why_not(rt: HostRuntime) -> Result<(), Fail> {
+    let alloc = rt.alloc();
+    let most = "999999999999999999";
+    let volume = Status::Volume;
+    // The words, the device's blocks, the writes and syncs, the status and the line.
+    let rows = [
+        (
+            ["format", "64", "128", "16"],
+            83,
+            23,
+            Status::Ok,
+            "formatted\n",
+        ),
+        (
+            ["format", "64", "128", "6"],
+            73,
+            13,
+            Status::Ok,
+            "formatted\n",
+        ),
+        (
+            ["format2", "64", "128", "6"],
+            80,
+            13,
+            Status::Ok,
+            "formatted\n",
+        ),
+        (
+            ["format", "64", "128", "4"],
+            83,
+            0,
+            volume,
+            "volume: counts journal 4\n",
+        ),
+        (
+            ["format", "64", "128", "16"],
+            82,
+            0,
+            volume,
+            "volume: short 83 82\n",
+        ),
+        (
+            ["format", "64", "128", "16"],
+            0,
+            0,
+            volume,
+            "volume: short 83 0\n",
+        ),
+        (
+            ["format", "1048577", "128", "64"],
+            83,
+            0,
+            volume,
+            "volume: counts blocks 1048577\n",
+        ),
+        (
+            ["format2", "4194305", "128", "128"],
+            83,
+            0,
+            volume,
+            "volume: counts blocks 4194305\n",
+        ),
+        (
+            ["format2", "64", "65664", "600"],
+            83,
+            0,
+            volume,
+            "volume: counts nodes 65664\n",
+        ),
+        (
+            ["format2", "4194304", "65536", "1024"],
+            83,
+            0,
+            volume,
+            "volume: short 4195905 83\n",
+        ),
+        (
+            ["format", "64", "129", "16"],
+            83,
+            0,
+            volume,
+            "volume: counts nodes 129\n",
+        ),
+        (
+            ["format", "0", "0", "0"],
+            83,
+            0,
+            volume,
+            "volume: counts blocks 0\n",
+        ),
+        (
+            ["format", "64", "128", most],
+            83,
+            0,
+            volume,
+            "volume: counts journal 999999999999999999\n",
+        ),
+    ];
+    for (row, blocks, calls, want, line) in rows {
+        let words = words(alloc, &row)?;
+        let mut input = MemSource::new(counted(alloc, 3)?, Vec::new(alloc));
+        let mut out = MemSink::new(Vec::new(alloc), alloc);
+        let dev = MemDevice::new(alloc, blocks)?;
+        let (status, mut dev) = run_plain(alloc, &words, dev, &mut input, &mut out);
+        assert_eq!(rt; status, want, "{line}");
+        assert_eq!(rt; out.bytes(), line.as_bytes());
+        assert_eq!(rt; dev.trace_len(), calls, "{line}");
+        assert_eq!(rt; input.take(&mut [0; 9]), Ok(3));
+        if status == Status::Ok {
+            let mut block = [0; 8192];
+            assert_eq!(rt; dev.read(0, &mut block), Ok(()));
+            let version = if row[0] == "format" { 1 } else { 2 };
+            assert_eq!(rt; &block[..8], b"blobvol\0".as_slice());
+            assert_eq!(rt; block[16], version);
+        }
+    }
+    Ok(())
+}
+
+#[test]
+fn each_fault_of_a_format_has_its_status_and_line(rt: HostRuntime) -> Result<(), Fail> {
+    let alloc = rt.alloc();
+    let words = words(alloc, &["format", "64", "128", "16"])?;
+    // Each of the 20 writes and 3 syncs in turn, then none; then each byte of the line.
+    for (kind, count) in [(CallKind::Write, 20), (CallKind::Sync, 3)] {
+        for nth in 1..count + 2 {
+            let mut dev = MemDevice::new(alloc, 83)?;
+            dev.fail(alloc, kind, nth)?;
+            let mut input = MemSource::new(Vec::new(alloc), Vec::new(alloc));
+            let mut out = MemSink::new(Vec::new(alloc), alloc);
+            let (status, dev) = run(alloc, &words, dev, &mut input, &mut out);
+            let (want, line) = if nth <= count {
+                (Status::Device, "device: fault\n")
+            } else {
+                (Status::Ok, "formatted\n")
+            };
+            assert_eq!(rt; status, want, "{kind:?} {nth}");
+            assert_eq!(rt; out.bytes(), line.as_bytes(), "{kind:?} {nth}");
+            assert_eq!(rt; dev.faults(), (nth <= count) as u64, "{kind:?} {nth}");
+        }
+    }
+    for nth in 1..12u64 {
+        let dev = MemDevice::new(alloc, 83)?;
+        let mut input = MemSource::new(Vec::new(alloc), Vec::new(alloc));
+        let mut out = Trickle {
+            inner: MemSink::new(vec![in alloc; nth]?, alloc),
+        };
+        let (status, _) = run(alloc, &words, dev, &mut input, &mut out);
+        let fits = nth > 10;
+        assert_eq!(rt;
+            status,
+            if fits { Status::Ok } else { Status::Sink },
+            "{nth}"
+        );
+        let given = if fits { 10 } else { nth as usize - 1 };
+        assert_eq!(rt;
+            out.inner.bytes(),
+            &"formatted\n".as_bytes()[..given],
+            "{nth}"
+        );
+    }
+    Ok(())
 }
