@@ -1,9 +1,12 @@
-"""The built program from outside: roots against hashlib, usage, help, closed and broken streams."""
+"""The built program from outside: roots against hashlib, usage, help, closed and broken streams, and
+the bytes of the volumes that it makes against their format."""
 import pathlib
 import subprocess
 import sys
+import tempfile
 
 from merkle import root
+from volume import empty_volume
 
 top = pathlib.Path(__file__).resolve().parent.parent
 candidates = [top / "out/blobfs", top / "crates/bv_main/out/bv_main"]
@@ -53,6 +56,76 @@ directory = subprocess.run(
     ["bash", "-c", 'exec "$0" root < /', str(program)], stdout=subprocess.PIPE, check=False
 )
 expect("a source that fails", (directory.returncode, directory.stdout), (3, b"source: fault\n"))
+
+with tempfile.TemporaryDirectory() as name:
+    folder = pathlib.Path(name)
+
+    # Volumes: the file is the format's, byte by byte.
+    for command, counts, version in [
+        ("format", (64, 128, 16), 1),
+        ("format2", (64, 128, 16), 2),
+        ("format", (65537, 256, 8), 1),
+    ]:
+        image = folder / f"{command}-{counts[0]}.img"
+        wanted = empty_volume(*counts, version)
+        made = f"new:{len(wanted) // 8192}:{image}"
+        done = run([made, command, *map(str, counts)])
+        expect(f"{command} {counts}", (done.returncode, done.stdout), (0, b"formatted\n"))
+        expect(f"bytes of {command} {counts}", image.read_bytes() == wanted, True)
+        done = run([made, command, *map(str, counts)])
+        expect(f"{command} twice", (done.returncode, done.stdout), (5, b"device: fault\n"))
+        expect(f"bytes of {command} twice", image.read_bytes() == wanted, True)
+
+    # A file that is there: formatted over, and what lies behind its whole blocks stays.
+    image = folder / "old.img"
+    image.write_bytes(b"\xa5" * (84 * 8192 + 100))
+    done = run([f"file:{image}", "format2", "64", "128", "16"])
+    wanted = empty_volume(64, 128, 16, 2)[: 19 * 8192] + b"\xa5" * (65 * 8192 + 100)
+    expect("format of a file", (done.returncode, done.stdout), (0, b"formatted\n"))
+    expect("bytes of a file", image.read_bytes() == wanted, True)
+    for size, has in [(0, 0), (8191, 0), (82 * 8192 + 8191, 82)]:
+        image.write_bytes(bytes(size))
+        done = run([f"file:{image}", "format", "64", "128", "16"])
+        line = f"volume: short 83 {has}\n".encode()
+        expect(f"a file of {size} bytes", (done.returncode, done.stdout), (6, line))
+        expect(f"length of a file of {size} bytes", image.stat().st_size, size)
+
+    # Words of no form touch no file, and a file that can't be had is a device fault.
+    absent = folder / "absent.img"
+    for words in [
+        [f"new:83:{absent}"],
+        [f"new:83:{absent}", "frob"],
+        [f"new:83:{absent}", "format", "64", "128"],
+        [f"new:083:{absent}", "root"],
+        [f"new:0:{absent}", "root"],
+        [f"new:8388609:{absent}", "root"],
+        [f"new:{absent}", "root"],
+        [f"file:{absent}", "root", "x"],
+        ["mem:65537", "root"],
+        [f"disk:{absent}", "root"],
+        ["format", "64", "128", "16"],
+    ]:
+        done = run(words)
+        expect(f"{words}", (done.returncode, done.stdout.split(b" ")[0]), (1, b"usage:"))
+        expect(f"no file after {words}", absent.exists(), False)
+    for word in [f"file:{absent}", f"new:1:{absent}/below", f"file:{folder}"]:
+        done = run([word, "root"])
+        expect(word, (done.returncode, done.stdout), (5, b"device: fault\n"))
+
+    # A file that can't grow, and want of memory.
+    limited = 'ulimit -f 64; trap "" XFSZ; exec "$0" "new:83:$1" format 64 128 16'
+    done = subprocess.run(
+        ["bash", "-c", limited, str(program), str(absent)], stdout=subprocess.PIPE, check=False
+    )
+    expect("a full file", (done.returncode, done.stdout), (5, b"device: fault\n"))
+    limited = 'ulimit -v 200000; exec "$0" mem:65536 root </dev/null'
+    done = subprocess.run(
+        ["bash", "-c", limited, str(program)], stdout=subprocess.PIPE, check=False
+    )
+    expect("no memory", (done.returncode, done.stdout), (7, b"memory: none left\n"))
+
+done = run(["mem:83", "root"], b"hi")
+expect("root on a device", (done.returncode, done.stdout), (0, root(b"hi").hex().encode() + b"\n"))
 
 for line in wrong:
     print("program:", line)

@@ -1,5 +1,5 @@
 //! What opens and makes the files that device words name.
-ghost use Rattle.std.specs.Prelude.{◌<◌, ◌^◌, ℕ, List, Result};
+ghost use Rattle.std.specs.Prelude.{◌≡◌, ◌<◌, ◌^◌, ℕ, List, Result, IfOk};
 ghost use Rattle.spec_faults.specs.Faults.{CountsFaults};
 ghost use Rattle.bv_device.specs.declared.failed.Failed.{Failed};
 
@@ -28,5 +28,6 @@ pub trait DiskFiles {
     fn make(&mut self, blocks: u64, path: &str) -> Result<Self::Disk, Failed>
         requires { blocks < 2 ^ 51 }
         ensures gives { make_gives self.old blocks path.now result self.new }
+        ensures blocks { IfOk result (λ dev. Self.Disk.block_count dev ≡ blocks) }
         ensures faults { CountsFaults (fault_count self.old) (fault_count self.new) result };
 }

@@ -1,5 +1,5 @@
 //! The files of the machine.
-ghost use Rattle.std.specs.Prelude.{◌≡◌, ◌<◌, ◌^◌};
+ghost use Rattle.std.specs.Prelude.{◌≡◌, ◌<◌, ◌^◌, IfOk};
 
 use crate::disk_files::DiskFiles;
 use crate::file_device::{BLOCK, FileDevice};
@@ -15,7 +15,9 @@ pub struct HostFiles<'r> {
 }
 
 impl<'r> HostFiles<'r> {
-    pub fn new(rt: &'r HostRuntime) -> HostFiles<'r> {
+    pub fn new(rt: &'r HostRuntime) -> HostFiles<'r>
+        ensures { result.faults ≡ 0 }
+    {
         HostFiles { rt, faults: 0 }
     }
 
@@ -29,6 +31,7 @@ impl<'r> HostFiles<'r> {
     // A file that isn't there yet. Its blocks are zero, since nothing was written to it.
     fn made(&self, blocks: u64, path: &str) -> io::Result<FileDevice<File>>
         requires { blocks < 2 ^ 51 }
+        ensures { IfOk result (λ file. file.blocks ≡ blocks) }
     {
         let file = File::create_new(self.rt, path)?;
         file.set_len(blocks * BLOCK)?;

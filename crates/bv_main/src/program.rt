@@ -1,5 +1,5 @@
 //! What the program answers, its streams and what opens its files handed in.
-ghost use Rattle.std.specs.Prelude.{◌≡◌, ◌⊎◌, map, string_bytes};
+ghost use Rattle.std.specs.Prelude.{◌≡◌, ◌⊎◌, map, string_bytes, IfOk};
 ghost use Rattle.spec_faults.specs.Faults.{CountsFaults};
 ghost use Rattle.bv_format.specs.Formats.{view};
 ghost use Rattle.bv_serve.specs.Runs.{change};
@@ -38,6 +38,7 @@ pub fn answer<F: DiskFiles, S: Source, K: Sink>(
         (λ path made. F.open_gives files.old path made files.new
         × CountsFaults (F.fault_count files.old) (F.fault_count files.new) made)
         (λ blocks path made. F.make_gives files.old blocks path made files.new
+        × IfOk made (λ dev. F.Disk.block_count dev ≡ blocks)
         × CountsFaults (F.fault_count files.old) (F.fault_count files.new) made)
         HELP.now VERSION.now request result
         (change (S.left input.old) (S.left input.new) (S.faults input.old)
@@ -74,6 +75,7 @@ fn run_on_word<F: DiskFiles, S: Source, K: Sink>(
         (λ path made. F.open_gives files.old path made files.new
         × CountsFaults (F.fault_count files.old) (F.fault_count files.new) made)
         (λ blocks path made. F.make_gives files.old blocks path made files.new
+        × IfOk made (λ dev. F.Disk.block_count dev ≡ blocks)
         × CountsFaults (F.fault_count files.old) (F.fault_count files.new) made)
         device.entry (map string_bytes command.now) result
         (change (S.left input.old) (S.left input.new) (S.faults input.old) (S.faults input.new))

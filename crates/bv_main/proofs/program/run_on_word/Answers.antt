@@ -4,12 +4,12 @@ use Rattle.bv_main.proofs.program.run_on_word.Goals as goal
 
 pub returns-in-Ok-make : goal.returns-in-Ok-make
 returns-in-Ok-make g c = rw c.in-New.is
-    (Ok c.in-Ok-make.dev, (c.in-Ok-make.ensures.gives, c.in-Ok-make.ensures.faults), c.run_on-in-Ok-make.ensures)
+    (Ok c.in-Ok-make.dev, (c.in-Ok-make.ensures.gives, c.in-Ok-make.ensures.blocks, c.in-Ok-make.ensures.faults), c.run_on-in-Ok-make.ensures)
 
 pub returns-in-Err-make : goal.returns-in-Err-make
 returns-in-Err-make g c = rw c.in-New.is (
   Err c.in-Err-make.field-0,
-  (c.in-Err-make.ensures.gives, c.in-Err-make.ensures.faults),
+  (c.in-Err-make.ensures.gives, tt, c.in-Err-make.ensures.faults),
   record {
     status = c.refuse-in-Err-make.ensures.status;
     line = c.refuse-in-Err-make.ensures.line;
