@@ -1,4 +1,6 @@
 //! The adapters over readers, writers and files, and what the program answers to its words.
+ghost use Rattle.std.specs.Prelude.{◌≤◌, IfOk};
+
 use crate::file_device::FileDevice;
 use crate::host_files::HostFiles;
 use crate::program::answer;
@@ -69,7 +71,9 @@ struct Restive {
 }
 
 impl Restive {
-    fn step(&self, most: usize) -> io::Result<usize> {
+    fn step(&self, most: usize) -> io::Result<usize>
+        ensures { IfOk result (λ n. n ≤ most) }
+    {
         let call = self.calls.get().wrapping_add(1);
         self.calls.set(call);
         if call == self.breaks {
