@@ -1,12 +1,12 @@
 -- Words that name devices, cut at their colons.
-use Rattle.std.proofs.Common.{◌≡◌, ◌≢◌, ℕ, zero, suc, ◌+◌, ◌<◌, ◌≤◌, ◌^◌, List, [], ◌∷◌, ◌++◌, length, get_or, drop, Option, None, Some, IfSome, IfNone, Bor, arith, ap, refl, sym, subst, ◌∙◌}
+use Rattle.std.proofs.Common.{◌≡◌, ◌≢◌, ℕ, zero, suc, ◌<◌, ◌^◌, List, [], ◌∷◌, ◌++◌, length, get_or, drop, Option, None, Some, IfSome, IfNone, Bor, arith, ap, refl, sym, subst, ◌∙◌}
 use Rattle.std.proofs.lemmas.Fmt.{digits_decimal}
 use Rattle.std.proofs.lemmas.Str.Parse.{IsNumeralModel, numerals_by_value, tells_digits, not_in_digits}
 use Rattle.std.specs.Prelude.{codes, decimal}
 use Rattle.std.specs.Str.Parse.{AllDigits, digits_value}
 use Rattle.std.specs.Option.{MatchOption}
 use Rattle.spec_record.specs.Tests.{IsBetween}
-use Rattle.bv_main.specs.Devices.{IsMemWord, IsNewWord, IsFileWord, NamesNone, HasNoColon, IsCutAtColon}
+use Rattle.bv_main.specs.Devices.{NamesNone, HasNoColon, IsCutAtColon}
 
 -- what stands before the first colon, and what stands after it, is one thing
 pub cut-once : (xs ys us vs : List ℕ) → xs ++ (58 ∷ ys) ≡ us ++ (58 ∷ vs) → HasNoColon xs → HasNoColon us → (xs ≡ us) × (ys ≡ vs)

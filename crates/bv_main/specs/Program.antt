@@ -11,7 +11,7 @@ use Rattle.bv_device.specs.declared.failed.Failed.{Failed}
 use Rattle.bv_format.specs.Formats.{View}
 use Rattle.bv_serve.specs.declared.command.Command.{Command}
 use Rattle.bv_serve.specs.declared.refusal.Refusal.{Refusal}
-use Rattle.bv_serve.specs.declared.refusal.Refusal.TheVariants.{Usage, DeviceFault, NoMemory}
+use Rattle.bv_serve.specs.declared.refusal.Refusal.TheVariants.{DeviceFault, NoMemory}
 use Rattle.bv_serve.specs.declared.status.Status.{Status}
 use Rattle.bv_serve.specs.Lines.{refusal_line, refusal_status}
 use Rattle.bv_serve.specs.Runs.{Change, LeavesAlone, Prints, PrintsAt}
@@ -24,7 +24,8 @@ use Rattle.bv_main.specs.declared.request.Request.TheVariants.{Help, Version, Ro
 use Rattle.bv_main.specs.Devices.{Names}
 
 -- a word that names a device, and then a written form of a command
-pub record IsRun (words : List (List ℕ)) (device : DeviceWord) (command : List (List ℕ)) : Type 0 where
+pub record IsRun (words : List (List ℕ)) (device : DeviceWord) (command : List (List ℕ))
+    : Type 0 where
   pub word : List ℕ
   pub is : words ≡ word ∷ command
   pub named : Names word device
@@ -60,28 +61,32 @@ memory blocks = record {
 abbrev pub RunsOn : View → List (List ℕ) → Status → Change → Change → Type 0
 RunsOn old command ended input out = (new : View) × Serves command ended old new input out
 
--- the top call was made on the file, or there is none
-abbrev pub RunsOnFile : {D : Type 0} → (D → View) → Result D Failed → List (List ℕ) → Status → Change → Change → Type 0
-RunsOnFile seen (Ok dev) command ended input out = RunsOn (seen dev) command ended input out
-RunsOnFile seen (Err failed) command ended input out = IsRefused DeviceFault ended input out
+-- Below, `seen` is what a contract sees of a file, `opens` and `makes` say what came of one that was
+-- opened at a path, or made there with so many blocks, and `untouched` that none was.
+module _ {D : Type 0} (seen : D → View) where
+  -- the top call was made on the file, or there is none
+  abbrev pub RunsOnFile : Result D Failed → List (List ℕ) → Status → Change → Change → Type 0
+  RunsOnFile (Ok dev) command ended input out = RunsOn (seen dev) command ended input out
+  RunsOnFile (Err failed) command ended input out = IsRefused DeviceFault ended input out
 
--- What is done with a command on the device that a word names. `opens` and `makes` say what came of a file that was
--- opened or made, and `untouched` that none was.
-abbrev pub RunsOnWord : {D : Type 0} (seen : D → View) (untouched : Type 0) (opens : List ℕ → Result D Failed → Type 0)
-    (makes : ℕ → List ℕ → Result D Failed → Type 0) → DeviceWord → List (List ℕ) → Status → Change → Change → Type 0
-RunsOnWord seen untouched opens makes (Mem blocks) command ended input out =
-    untouched × (RunsOn (memory blocks) command ended input out ⊎ IsRefused NoMemory ended input out)
-RunsOnWord {D} seen untouched opens makes (New blocks path) command ended input out =
-    (made : Result D Failed) × makes blocks path.now made × RunsOnFile seen made command ended input out
-RunsOnWord {D} seen untouched opens makes (File path) command ended input out =
-    (made : Result D Failed) × opens path.now made × RunsOnFile seen made command ended input out
+  module _ (untouched : Type 0) (opens : List ℕ → Result D Failed → Type 0)
+      (makes : ℕ → List ℕ → Result D Failed → Type 0) where
+    -- what is done with a command on the device that a word names
+    abbrev pub RunsOnWord : DeviceWord → List (List ℕ) → Status → Change → Change → Type 0
+    RunsOnWord (Mem blocks) command ended input out =
+        untouched × (RunsOn (memory blocks) command ended input out
+        ⊎ IsRefused NoMemory ended input out)
+    RunsOnWord (New blocks path) command ended input out =
+        (made : Result D Failed) × makes blocks path.now made
+        × RunsOnFile made command ended input out
+    RunsOnWord (File path) command ended input out =
+        (made : Result D Failed) × opens path.now made × RunsOnFile made command ended input out
 
--- What is done for a request.
-abbrev pub Does : {D : Type 0} (seen : D → View) (untouched : Type 0) (opens : List ℕ → Result D Failed → Type 0)
-    (makes : ℕ → List ℕ → Result D Failed → Type 0) (help version : List ℕ) → Request → Status → Change → Change → Type 0
-Does seen untouched opens makes help version Help ended input out = untouched × PrintsAt ended out help
-Does seen untouched opens makes help version Version ended input out = untouched × PrintsAt ended out version
-Does seen untouched opens makes help version Root ended input out =
-    untouched × RunsOn (memory 0) (codes "root" ∷ []) ended input out
-Does seen untouched opens makes help version (On device command) ended input out =
-    RunsOnWord seen untouched opens makes device (map string_bytes command.now) ended input out
+    -- what is done for a request
+    abbrev pub Does : (help version : List ℕ) → Request → Status → Change → Change → Type 0
+    Does help version Help ended input out = untouched × PrintsAt ended out help
+    Does help version Version ended input out = untouched × PrintsAt ended out version
+    Does help version Root ended input out =
+        untouched × RunsOn (memory 0) (codes "root" ∷ []) ended input out
+    Does help version (On device command) ended input out =
+        RunsOnWord device (map string_bytes command.now) ended input out

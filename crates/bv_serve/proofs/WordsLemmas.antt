@@ -49,9 +49,9 @@ four_words a b c d (Format g) form = record {
 }
 
 -- four words that write the parts of such a command write it
-pub format_form : (a b c d : List ℕ) (g : Geometry) → IsFormatWord a g.version → IsNumber b g.blocks → IsNumber c g.nodes → IsNumber d g.journal
+pub as_form : (a b c d : List ℕ) (g : Geometry) → IsFormatWord a g.version → IsNumber b g.blocks → IsNumber c g.nodes → IsNumber d g.journal
     → IsForm (a ∷ b ∷ c ∷ d ∷ []) (Format g)
-format_form a b c d g name blocks nodes journal = record {
+as_form a b c d g name blocks nodes journal = record {
   written = simp (name.is, blocks.written, nodes.written, journal.written) refl;
   can = record { version = name.known; blocks = blocks.short; nodes = nodes.short; journal = journal.short };
 }

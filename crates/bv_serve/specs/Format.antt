@@ -31,7 +31,8 @@ Reports (Err fault) ended out =
     (ended ≡ refusal_status (refusal_of fault)) × Prints out (refusal_line (refusal_of fault))
 
 -- The making of a volume of these counts; `old` and `new` are the device before and after.
-pub record RunsFormat (g : Geometry) (ended : Status) (old new : View) (input out : Change) : Type 0 where
+pub record RunsFormat (g : Geometry) (ended : Status) (old new : View) (input out : Change)
+    : Type 0 where
   -- what is reported
   pub answer : Result (Unit {0}) FormatFault
   pub counts : AnswersCounts g answer

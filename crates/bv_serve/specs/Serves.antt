@@ -15,8 +15,10 @@ use Rattle.bv_serve.specs.Root.{root_limit, RunsRoot}
 use Rattle.bv_serve.specs.Runs.{Change, LeavesAlone, Prints}
 use Rattle.bv_serve.specs.Words.{IsForm, IsNoForm}
 
--- A run of the top call: its words, its status, and what became of the device, the source and the sink.
-pub record Serves (words : List (List ℕ)) (ended : Status) (old new : View) (input out : Change) : Type 0 where
+-- A run of the top call: its words, its status, and what became of the device, `old` and `new`, and
+-- of the streams.
+pub record Serves (words : List (List ℕ)) (ended : Status) (old new : View) (input out : Change)
+    : Type 0 where
   -- words that are no written form, and no others, are refused as such
   pub usage : (ended ≡ status.Usage) ↔ IsNoForm words
   -- then nothing is read, and the usage line is written

@@ -7,7 +7,8 @@ use Rattle.bv_serve.specs.declared.command.Command.TheVariants.{Root, Format}
 use Rattle.bv_serve.specs.declared.status.Status.{Status}
 use Rattle.bv_serve.specs.declared.status.Status.TheVariants as status
 
--- A word writes a number in decimal digits without a leading zero, at most 18 of them (this project's profile).
+-- A word writes a number in decimal digits without a leading zero, at most 18 of them (this
+-- project's profile).
 pub record IsNumber (word : List ℕ) (n : ℕ) : Type 0 where
   pub written : word ≡ decimal n
   pub short : n < 10 ^ 18

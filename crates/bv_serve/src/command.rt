@@ -30,7 +30,7 @@ impl Command {
 }
 
 /// The command that makes a volume, if these four words write one.
-#[tactic(auto, using(crate::proofs::WordsLemmas::format_form, crate::proofs::WordsLemmas::four_words))]
+#[tactic(auto, using(crate::proofs::WordsLemmas::as_form, crate::proofs::WordsLemmas::four_words))]
 fn format_of(name: &str, blocks: &str, nodes: &str, journal: &str) -> Option<Command>
     ensures some { IfSome result
         (λ command. IsForm (name.now ∷ blocks.now ∷ nodes.now ∷ journal.now ∷ []) command) }
