@@ -1,5 +1,5 @@
 -- Words and the written forms.
-use Rattle.std.proofs.Common.{◌≡◌, ℕ, zero, suc, ◌<◌, ◌≤◌, List, [], ◌∷◌, length, map, get_or, Result, Ok, arith, true, false, ◌==◌, ap, refl, sym, ◌∙◌}
+use Rattle.std.proofs.Common.{◌≡◌, ℕ, zero, suc, ◌<◌, ◌≤◌, List, [], ◌∷◌, length, map, get_or, Result, Ok, arith, ap, refl, sym, ◌∙◌}
 use Rattle.std.proofs.lemmas.Fmt.{parse-decimal, decimal_injective}
 use Rattle.std.specs.Str.Parse.{ParsesUnsigned}
 use Rattle.spec_record.specs.declared.geometry.Geometry.{Geometry}

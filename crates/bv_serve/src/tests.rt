@@ -225,6 +225,7 @@ fn format_makes_a_volume_or_says_why_not(rt: HostRuntime) -> Result<(), Fail> {
         } else {
             assert_eq!(rt; status, Status::Ok, "{row}");
             let mut block = [0; 8192];
+            assert!(rt; dev.blocks() > 0, "{row}");
             assert_eq!(rt; dev.read(0, &mut block), Ok(()), "{row}");
             assert!(rt; block.starts_with(b"blobvol\0profile1".as_slice()), "{row}");
             let version = if row.starts_with("format2") { 2 } else { 1 };
