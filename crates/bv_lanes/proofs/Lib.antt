@@ -1,3 +1,4 @@
 pub mod LaneLemmas
 mod PieceLemmas
 mod RotationLemmas
+mod RowLemmas

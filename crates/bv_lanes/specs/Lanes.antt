@@ -24,10 +24,11 @@ lane_words j vectors = map (λ vector. slice_index vector j) vectors
 abbrev pub HasWords : List ℕ → List ℕ → Type 0
 HasWords words piece = (t : ℕ) → t < 16 → slice_index words t ≡ word_at piece (4 * t)
 
--- each lane's window moves on by so many words of the schedule, of which the first goes at this place
+-- each lane's window moves on by so many words of the schedule; the first one goes at this place
 abbrev pub MovesOn : List (List ℕ) → List (List ℕ) → ℕ → ℕ → Type 0
-MovesOn old new place count = (j : ℕ) → j < 8 → (piece : List ℕ) (t : ℕ) → 16 ≤ t → t + count ≤ 64 → t % 16 ≡ place
-    → IsWindow (lane_words j old) (schedule piece 48) t → IsWindow (lane_words j new) (schedule piece 48) (t + count)
+MovesOn old new place count = (j : ℕ) → j < 8 → (piece : List ℕ) (t : ℕ)
+    → 16 ≤ t → t + count ≤ 64 → t % 16 ≡ place → IsWindow (lane_words j old) (schedule piece 48) t
+    → IsWindow (lane_words j new) (schedule piece 48) (t + count)
 
 -- in each lane, where the window has the words of the sixteen rounds of a turn, so many rounds from
 -- this place on lead from working variables to working variables
@@ -36,3 +37,10 @@ RunsRounds window before after turn place count = (j : ℕ) → j < 8 → (piece
     → IsWindow (lane_words j window) (schedule piece 48) (16 * turn + 16)
     → lane_state j before ≡ rounds h (schedule piece 48) (16 * turn + place)
     → lane_state j after ≡ rounds h (schedule piece 48) (16 * turn + place + count)
+
+-- words k and 4 + k of each of four vectors
+abbrev pub four_words : List ℕ → List ℕ → List ℕ → List ℕ → ℕ → List ℕ
+four_words a b c d k =
+    slice_index a k ∷ slice_index b k ∷ slice_index c k ∷ slice_index d k
+    ∷ slice_index a (4 + k) ∷ slice_index b (4 + k)
+    ∷ slice_index c (4 + k) ∷ slice_index d (4 + k) ∷ []

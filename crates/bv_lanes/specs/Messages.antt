@@ -17,4 +17,7 @@ piece_of message n = take 64 (drop (n * 64) (padded_message (bytes_of message)))
 
 -- the message of lane j; one past the end is never asked for
 abbrev pub message_at : List Message → ℕ → Message
-message_at messages j = slice_index_or messages j (record { prefix = []; block = record { ref_ptr = (0, 0); now = [] } })
+message_at messages j = slice_index_or messages j (record {
+  prefix = [];
+  block = record { ref_ptr = (0, 0); now = [] };
+})

@@ -7,8 +7,10 @@ mod hashing;
 mod message;
 mod pieces;
 mod rounds;
+mod rows;
 mod schedule;
 mod vectors;
+mod words;
 
 pub use hashing::digests;
 pub use message::{Block, Message};

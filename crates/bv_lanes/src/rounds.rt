@@ -26,7 +26,8 @@ const K: [u32; 64] = [
 /// One round on the working variables, with its constant and each lane's word.
 #[inline(always)]
 fn round(v: State, constant: u32, word: Words) -> State
-    ensures { EachLane (λ j. lane_state j result ≡ round (lane_state j v) constant (slice_index word j)) }
+    ensures { EachLane (λ j. lane_state j result
+        ≡ round (lane_state j v) constant (slice_index word j)) }
 {
     let [a, b, c, d, e, f, g, h] = v;
     let chosen = add(add(h, upper_sigma1(e)), choose(e, f, g));

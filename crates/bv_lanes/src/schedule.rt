@@ -1,7 +1,7 @@
 //! The words that the rounds take (FIPS 180-4, 6.2.2, step 1), in each lane, sixteen at a time.
 //!
-//! The next sixteen words are made before the rounds that take them, and not each one before its own:
-//! so fewer vectors are in use at once.
+//! The next sixteen words are made before the rounds that take them, and not each one before its
+//! own: so fewer vectors are in use at once.
 
 ghost use Rattle.std.specs.Prelude.{◌≡◌, ℕ, ◌+◌, ◌*◌, ◌%◌, ◌<◌, ◌≤◌, slice_index};
 ghost use Rattle.sha2.specs.Sha256.{window_word};

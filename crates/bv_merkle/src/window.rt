@@ -122,7 +122,8 @@ fn message(offset: u64, count: usize, block: &Block) -> Message<'_>
 
 // Digests from their bytes.
 fn named(digests: &[[u8; 32]; 8]) -> [Digest; 8]
-    ensures { result ≡ map {A = List ℕ} {B = DigestValue} (λ bytes. record { 0 = bytes }) digests.now }
+    ensures { result
+        ≡ map {A = List ℕ} {B = DigestValue} (λ bytes. record { 0 = bytes }) digests.now }
 {
     let [a, b, c, d, e, f, g, h] = *digests;
     [

@@ -1,0 +1,9 @@
+use Rattle.std.proofs.Common.{◌≡◌, [], ◌∷◌, slice_index, refl}
+use Rattle.bv_lanes.proofs.RowLemmas.{places, two_of}
+use Rattle.bv_lanes.proofs.rows.high_halves.Goals as goal
+
+pub returns : goal.returns
+returns c =
+    two_of (λ a b. places a b 4 5 6 7 12 13 14 15
+    ≡ slice_index a 4 ∷ slice_index a 5 ∷ slice_index a 6 ∷ slice_index a 7 ∷ slice_index b 4 ∷ slice_index b 5 ∷ slice_index b 6 ∷ slice_index b 7 ∷ [])
+    (λ a0 a1 a2 a3 a4 a5 a6 a7 b0 b1 b2 b3 b4 b5 b6 b7. refl) c.args.a c.args.b c.fits-a.0 c.fits-b.0
