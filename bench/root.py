@@ -22,6 +22,7 @@ RUNS = 9
 OURS = "blobfs root"
 DEFAULT = "blobfs root, default"
 ALONE = ["lanes", "sha2 blocks"]
+WINDOW = 65536
 
 # How many times as long as ours each other is to take, at least: for this processor, and by default.
 WANTED = {
@@ -33,9 +34,12 @@ WANTED = {
 }
 
 
-def commands(programs, path):
+def commands(programs, path, size):
     """The commands by name; each reads the file from standard input, or by its path."""
-    found = {name: [program, *words] for name, program, *words in programs}
+    found = {
+        name: [program, *words] for name, program, *words in programs
+        if name not in ALONE or size >= WINDOW
+    }
     if shutil.which("sha256sum"):
         found["sha256sum"] = ["sha256sum"]
     if shutil.which("openssl"):
@@ -86,14 +90,14 @@ def main():
         for label, size in SIZES:
             path = folder / f"{size}"
             path.write_bytes(os.urandom(size))
-            found = commands(programs, path)
+            found = commands(programs, path, size)
             clock, processor = best_of(found, path)
             print(f"{label}, best of {RUNS}")
             table(head, [row(label, size, name, words, path, clock, processor) for name, words in found.items()])
         label, size = SIZES[1]
         path = folder / f"{size}"
         print(f"{label}, millions of instructions")
-        for name, words in commands(programs, path).items():
+        for name, words in commands(programs, path, size).items():
             print(f"  {name}: {instructions(words, path)}")
 
 
