@@ -22,10 +22,13 @@ def blobfs():
 def default_blobfs():
     """The program for the processor that rt builds for by itself, kept beside the other."""
     program = TOP / "out/blobfs_default"
-    sources = [path for name in ["src", "specs", "proofs"] for path in (TOP / "crates").glob(f"*/{name}/**/*")]
-    newest = max(path.stat().st_mtime for path in sources)
+    crates_folder = TOP / "crates"
+    newest = max(
+        path.stat().st_mtime for part in ["src", "specs", "proofs"]
+        for path in crates_folder.glob(f"*/{part}/**/*")
+    )
     if not program.exists() or program.stat().st_mtime < newest:
-        folder = TOP / "crates/bv_main"
+        folder = crates_folder / "bv_main"
         subprocess.run(
             ["rt", "run", "--", "--version"], cwd=folder, check=True, stdin=subprocess.DEVNULL,
             stdout=subprocess.DEVNULL, stderr=subprocess.DEVNULL,
@@ -72,8 +75,8 @@ def proved_program(name, below, folder):
     (folder / "crates.txt").write_text("\n".join(listed) + "\n", encoding="utf-8")
     subprocess.run(["git", "init", "-q"], cwd=folder, check=True)
     built = subprocess.run(
-        ["rt", "run", *for_this_processor()], cwd=source.parent, stdin=subprocess.DEVNULL, capture_output=True,
-        text=True, check=False,
+        ["rt", "run", *for_this_processor()], cwd=source.parent, stdin=subprocess.DEVNULL,
+        capture_output=True, text=True, check=False,
     )
     program = source.parent / "out" / name
     if not program.exists():
@@ -98,7 +101,7 @@ def processor_seconds(words, stdin):
 
 
 def instructions(words, stdin):
-    """The instructions of one run in millions, as text; a dash where valgrind isn't there to count."""
+    """The instructions of one run in millions, as text; a dash where valgrind isn't there."""
     if not shutil.which("valgrind"):
         return "-"
     with open(stdin, "rb") as given, tempfile.NamedTemporaryFile() as counts:
