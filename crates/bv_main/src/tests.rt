@@ -210,5 +210,7 @@ fn a_new_file_is_formatted_and_opened_again(rt: HostRuntime) -> Result<(), Fail>
         "volume: short 83 0\n",
     )?;
     assert_eq!(rt; status, Some(Status::Volume));
+    fs::remove_file(&rt, "disk.img")?;
+    fs::remove_file(&rt, "short.img")?;
     Ok(())
 }
