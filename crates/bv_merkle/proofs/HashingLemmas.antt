@@ -1,5 +1,5 @@
 -- The message of a block's digest, as the four updates of a hasher make it.
-use Rattle.std.proofs.Common.{inl, inr, ◌+◌, ◌*◌, ◌≤◌, drop, take, set, get_or, Some, length-drop, length-take, ◌≡◌, ℕ, zero, suc, ◌-◌, ◌<◌, List, [], ◌∷◌, ◌++◌, length, replicate, append_assoc, refl, sym, ap, ◌∙◌, arith}
+use Rattle.std.proofs.Common.{inl, inr, ◌+◌, ◌*◌, ◌≤◌, drop, take, set, get_or, Some, length-drop, length-take, ◌≡◌, ℕ, zero, suc, ◌-◌, ◌<◌, List, [], ◌∷◌, ◌++◌, length, replicate, append_assoc, sym, ap, ◌∙◌, arith}
 use Rattle.std.specs.Prelude.{bit_or}
 use Rattle.std.specs.Int.{w32, w64, to_le_bytes}
 use Rattle.sha2.specs.Sha256.{sha256}
@@ -8,45 +8,38 @@ use Rattle.std.specs.List.{slice_get}
 use Rattle.std.proofs.lemmas.Bool.{cases_lt}
 use Rattle.std.proofs.lemmas.List.{take_all, get_or-set_other, get_or-set_same, length-set}
 use Rattle.std.proofs.lemmas.Option.{slice_get-get_or, get_or_from_slice_get}
-use Rattle.spec_tree.specs.Tree.{piece, block_digest, padded_data, filled, heading}
+use Rattle.spec_tree.specs.Tree.{piece, block_digest, block_message}
+use Rattle.spec_tree.proofs.TreeLemmas.{block_message-some}
 
--- a block with data is filled with zeros at each level
-pub padded_data-some : (level : ℕ) (bytes : List ℕ) → 0 < length bytes → padded_data level bytes ≡ filled bytes
-padded_data-some zero [] h = absurd (omega (arith, h))
-padded_data-some zero (b ∷ bs) h = refl
-padded_data-some (suc level) bytes h = refl
-
--- the digest of a block with data
-pub block_digest-some : (level offset : ℕ) (bytes place count digest : List ℕ)
-    → place ≡ to_le_bytes w64 (bit_or offset level) → count ≡ to_le_bytes w32 (length bytes)
-    → 0 < length bytes
-    → digest ≡ sha256 (((([] ++ place) ++ count) ++ bytes) ++ replicate (8192 - length bytes) 0)
+-- the digest of a block with data, from its place and its padding
+pub block_digest-some : (level offset : ℕ) (bytes place count digest : List ℕ) (p : ℕ × ℕ)
+    → place ≡ to_le_bytes w64 p.0 → count ≡ to_le_bytes w32 (length bytes)
+    → p ≡ (bit_or offset level, 8192 - length bytes) → 0 < length bytes
+    → digest ≡ sha256 (((place ++ count) ++ bytes) ++ replicate p.1 0)
     → ◌≡◌ {A = Digest} record { 0 = digest } (block_digest level offset bytes)
 unfolding block_digest
-block_digest-some level offset bytes place count digest p c h d =
-    let place_of : List ℕ = to_le_bytes w64 (bit_or offset level) in
-    let zeros : List ℕ = replicate (8192 - length bytes) 0 in
-    let m : ((([] ++ place) ++ count) ++ bytes) ++ zeros ≡ heading level offset (length bytes) ++ padded_data level bytes =
-    append_assoc (place ++ count) bytes zeros
-    ∙ ap (λ (x : List ℕ). (x ++ count) ++ (bytes ++ zeros)) p
-    ∙ ap (λ (x : List ℕ). (place_of ++ x) ++ (bytes ++ zeros)) c
-    ∙ ap (λ (x : List ℕ). heading level offset (length bytes) ++ x) (sym (padded_data-some level bytes h)) in
+block_digest-some level offset bytes place count digest p at long is h d =
+    let m : ((place ++ count) ++ bytes) ++ replicate p.1 0 ≡ block_message level offset bytes =
+    append_assoc (place ++ count) bytes (replicate p.1 0)
+    ∙ (λ t. (at t ++ long t) ++ (bytes ++ replicate p.1 0))
+    ∙ (λ t. (to_le_bytes w64 (is t).0 ++ to_le_bytes w32 (length bytes)) ++ (bytes ++ replicate (is t).1 0))
+    ∙ sym (block_message-some level offset bytes h) in
     ap (λ (bs : List ℕ). let r : Digest = record { 0 = bs } in r) (d ∙ ap sha256 m)
 
--- the digest of the empty blob's block
-pub block_digest-none : (level offset : ℕ) (bytes place count digest : List ℕ)
-    → place ≡ to_le_bytes w64 (bit_or offset level) → count ≡ to_le_bytes w32 (length bytes)
-    → length bytes ≡ 0 → (0 < level → length bytes ≡ 8192)
-    → digest ≡ sha256 ((([] ++ place) ++ count) ++ bytes)
+-- the digest of a block without data, which has place 0 and no padding
+pub block_digest-none : (level offset : ℕ) (bytes place count digest : List ℕ) (p : ℕ × ℕ)
+    → place ≡ to_le_bytes w64 p.0 → count ≡ to_le_bytes w32 (length bytes)
+    → p ≡ (0, 0) → length bytes ≡ 0 → (0 < level → length bytes ≡ 8192)
+    → digest ≡ sha256 (((place ++ count) ++ bytes) ++ replicate p.1 0)
     → ◌≡◌ {A = Digest} record { 0 = digest } (block_digest level offset bytes)
 unfolding block_digest
-block_digest-none zero offset [] place count digest p c h l d =
-    let place_of : List ℕ = to_le_bytes w64 (bit_or offset 0) in
-    let m : ((([] ++ place) ++ count) ++ []) ≡ heading 0 offset 0 ++ [] =
-    ap (λ (x : List ℕ). (x ++ count) ++ []) p ∙ ap (λ (x : List ℕ). (place_of ++ x) ++ []) c in
+block_digest-none zero offset [] place count digest p at long is h l d =
+    let m : ((place ++ count) ++ []) ++ replicate p.1 0 ≡ replicate 12 0 =
+    (λ t. ((at t ++ long t) ++ []) ++ replicate p.1 0)
+    ∙ (λ t. ((to_le_bytes w64 (is t).0 ++ to_le_bytes w32 0) ++ []) ++ replicate (is t).1 0) in
     ap (λ (bs : List ℕ). let r : Digest = record { 0 = bs } in r) (d ∙ ap sha256 m)
-block_digest-none zero offset (b ∷ bs) place count digest p c h l d = absurd (omega (arith, h))
-block_digest-none (suc level) offset bytes place count digest p c h l d = absurd (omega (arith, h, l (omega arith)))
+block_digest-none zero offset (b ∷ bs) place count digest p at long is h l d = absurd (omega (arith, h))
+block_digest-none (suc level) offset bytes place count digest p at long is h l d = absurd (omega (arith, h, l (omega arith)))
 
 -- a piece that is all that is left
 pub piece-rest : (bytes : List ℕ) (i : ℕ)

@@ -8,9 +8,9 @@ use Rattle.std.proofs.lemmas.Option.{slice_get-get_or}
 use Rattle.sha2.specs.Sha256.{sha256}
 use Rattle.spec_tree.specs.declared.Digest.{Digest}
 use Rattle.spec_tree.specs.Tree.{block_digest, data_blocks, filled, heading, piece}
+use Rattle.spec_tree.proofs.TreeLemmas.{block_message-some}
 use Rattle.bv_lanes.specs.declared.message.Message.{Message}
 use Rattle.bv_lanes.specs.Messages.{bytes_of, message_at}
-use Rattle.bv_merkle.proofs.HashingLemmas.{padded_data-some}
 
 -- chunk i of a list
 chunk_at : {X : Type 0} (n k : ℕ) (xs : List X) (i : ℕ) → i < k → get_or (first_chunks n k xs) i [] ≡ take n (drop (n * i) xs)
@@ -33,7 +33,7 @@ pub digest_of_message : (offset : ℕ) (bytes : List ℕ) (m : Message) → 0 < 
 unfolding block_digest
 digest_of_message offset bytes m some is =
     ap (λ (x : List ℕ). digest_of (sha256 x))
-    (is ∙ ap (λ (x : List ℕ). heading 0 offset (length bytes) ++ x) (sym (padded_data-some 0 bytes some)))
+    (is ∙ sym (block_message-some 0 offset bytes some))
 
 -- the message of a whole piece
 whole_piece : (bytes : List ℕ) (offset i : ℕ) (m : Message) (whole : List (List ℕ))

@@ -19,7 +19,8 @@ fn update_zeros(hasher: &mut Sha256, count: usize)
 
 /// The digest of the block with these bytes, at a level and a byte offset within it.
 ///
-/// Level 0 is the data. No bytes there are the one block of the empty blob.
+/// Level 0 is the data. A block without bytes is hashed as that of the empty blob, whatever its
+/// offset.
 pub fn block_digest(level: u32, offset: u64, bytes: &[u8]) -> Digest
     requires level { level < 8 }
     requires offset { offset % 8192 ≡ 0 }
@@ -27,14 +28,16 @@ pub fn block_digest(level: u32, offset: u64, bytes: &[u8]) -> Digest
     requires digests { 0 < level → length bytes.now ≡ 8192 }
     ensures { result ≡ T.block_digest level offset bytes.now }
 {
-    let place = offset | level as u64;
+    let (place, padding) = if bytes.is_empty() {
+        (0, 0)
+    } else {
+        (offset | level as u64, BLOCK_LEN - bytes.len())
+    };
     let count = bytes.len() as u32;
     let mut hasher = Sha256::new();
     hasher.update(&place.to_le_bytes());
     hasher.update(&count.to_le_bytes());
     hasher.update(bytes);
-    if !bytes.is_empty() {
-        update_zeros(&mut hasher, BLOCK_LEN - bytes.len());
-    }
+    update_zeros(&mut hasher, padding);
     Digest(hasher.finalize())
 }

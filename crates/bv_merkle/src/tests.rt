@@ -126,6 +126,8 @@ fn block_digests_are_those_known_outside(rt: HostRuntime) {
     assert_eq!(rt; head(&digests), 0x0434_9125_3559_d415, "a block of digests");
     let data = block_digest(0, 16384, b"hi");
     assert_eq!(rt; head(&data), 0xf33b_4a01_9752_b08f, "a short block of data");
+    let none = block_digest(0, 8192, &[]);
+    assert_eq!(rt; head(&none), 0x15ec_7bf0_b507_32b4, "no data at an offset");
 }
 
 // Whether a blob of this size has so many blocks in version 1, in version 2, and so many levels,

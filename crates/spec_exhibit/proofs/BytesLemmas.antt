@@ -5,7 +5,7 @@ use Rattle.std.specs.Int.{byte_at, bytes_low_first, bytes_high_first, to_le_byte
 use Rattle.std.proofs.lemmas.List.Elements.{All-nil, All-cons, All-append, All-replicate, All-map, All-head, All-tail}
 use Rattle.sha2.specs.Sha256.{sha256, digest_bytes}
 use Rattle.spec_tree.specs.declared.Digest.{Digest}
-use Rattle.spec_tree.specs.Tree.{block_digest, filled, heading, padded_data, level_0, level_above, level_of}
+use Rattle.spec_tree.specs.Tree.{block_digest, block_message, filled, heading, level_0, level_above, level_of}
 use Rattle.spec_tree.proofs.TreeLemmas.{length-block_digest}
 use Rattle.spec_exhibit.specs.Exhibit.{AreBytes}
 
@@ -34,19 +34,22 @@ sha256-are m = digest_bytes-are _ 8
 pub filled-are : (bytes : List ℕ) → AreBytes bytes → AreBytes (filled bytes)
 filled-are bytes h = All-append (λ b. b < 256) bytes (replicate (8192 - length bytes) 0) h (All-replicate (λ b. b < 256) (8192 - length bytes) 0 (omega arith))
 
-padded-are : (level : ℕ) (bytes : List ℕ) → AreBytes bytes → AreBytes (padded_data level bytes)
-padded-are zero [] h = All-nil (λ b. b < 256)
-padded-are zero (b ∷ bytes) h = filled-are (b ∷ bytes) h
-padded-are (suc level) bytes h = filled-are bytes h
+-- place and length
+heading-are : (level offset count : ℕ) → AreBytes (heading level offset count)
+heading-are level offset count =
+    All-append (λ b. b < 256) (to_le_bytes w64 (bit_or offset level)) (to_le_bytes w32 count)
+    (low_first-are 0 8 (bit_or offset level)) (low_first-are 0 4 count)
+
+with_heading-are : (level offset : ℕ) (bytes : List ℕ) → AreBytes bytes
+    → AreBytes (heading level offset (length bytes) ++ filled bytes)
+with_heading-are level offset bytes h =
+    All-append (λ b. b < 256) (heading level offset (length bytes)) (filled bytes) (heading-are level offset (length bytes)) (filled-are bytes h)
 
 -- the message of a block's digest
-pub message-are : (level offset : ℕ) (bytes : List ℕ) → AreBytes bytes
-    → AreBytes (heading level offset (length bytes) ++ padded_data level bytes)
-message-are level offset bytes h =
-    All-append (λ b. b < 256) (heading level offset (length bytes)) (padded_data level bytes)
-    (All-append (λ b. b < 256) (to_le_bytes w64 (bit_or offset level)) (to_le_bytes w32 (length bytes))
-    (low_first-are 0 8 (bit_or offset level)) (low_first-are 0 4 (length bytes)))
-    (padded-are level bytes h)
+pub message-are : (level offset : ℕ) (bytes : List ℕ) → AreBytes bytes → AreBytes (block_message level offset bytes)
+message-are zero offset [] h = All-replicate (λ b. b < 256) 12 0 (omega arith)
+message-are zero offset (b ∷ bytes) h = with_heading-are 0 offset (b ∷ bytes) h
+message-are (suc level) offset bytes h = with_heading-are (suc level) offset bytes h
 
 -- a digest has 32 bytes
 pub record IsDigest (d : Digest) : Type 0 where

@@ -16,7 +16,7 @@ use Rattle.std.proofs.lemmas.List.FromFn.{get_or-map-range_with_len}
 use Rattle.std.proofs.lemmas.Slice.Eq.{bytes_eq-Decides}
 use Rattle.sha2.specs.Sha256.{sha256}
 use Rattle.spec_tree.specs.declared.Digest.{Digest}
-use Rattle.spec_tree.specs.Tree.{block_digest, data_blocks, digest_block, filled, heading, padded_data, piece, level_0, level_above, level_of, levels_of, root_of, digests_at}
+use Rattle.spec_tree.specs.Tree.{block_digest, block_message, data_blocks, digest_block, filled, heading, piece, level_0, level_above, level_of, levels_of, root_of, digests_at}
 use Rattle.spec_tree.proofs.TreeLemmas.{length-level_of, level_of-top}
 use Rattle.spec_exhibit.specs.Exhibit.{AreBytes, ACollision}
 use Rattle.spec_exhibit.proofs.BytesLemmas.{IsDigest, message-are, filled-are, joined-are, level_of-are}
@@ -50,28 +50,26 @@ filled-same a b long same =
     ∙ ap (λ (n : ℕ). take n (filled b)) long
     ∙ take-append_seam b (replicate (8192 - length b) 0)
 
-padded-same : (level : ℕ) (a b : List ℕ) → length a ≡ length b → padded_data level a ≡ padded_data level b → a ≡ b
-padded-same zero [] [] long same = refl
-padded-same zero [] (y ∷ b) long same = absurd (omega (arith, long))
-padded-same zero (x ∷ a) [] long same = absurd (omega (arith, long))
-padded-same zero (x ∷ a) (y ∷ b) long same = filled-same (x ∷ a) (y ∷ b) long same
-padded-same (suc level) a b long same = filled-same a b long same
+-- what stands behind one heading
+behind-same : (level offset : ℕ) (a b : List ℕ) → length a ≡ length b
+    → heading level offset (length a) ++ filled a ≡ heading level offset (length b) ++ filled b → a ≡ b
+behind-same level offset a b long same =
+    filled-same a b long
+    (append_cancel_left (heading level offset (length a)) (filled a) (filled b)
+    (same ∙ ap (λ (n : ℕ). heading level offset n ++ filled b) (sym long)))
 
--- the message of a block's digest
-abbrev message : ℕ → ℕ → List ℕ → List ℕ
-message level offset bytes = heading level offset (length bytes) ++ padded_data level bytes
-
-message-same : (level offset : ℕ) (a b : List ℕ) → length a ≡ length b → message level offset a ≡ message level offset b → a ≡ b
-message-same level offset a b long same =
-    padded-same level a b long
-    (append_cancel_left (heading level offset (length a)) (padded_data level a) (padded_data level b)
-    (same ∙ ap (λ (n : ℕ). heading level offset n ++ padded_data level b) (sym long)))
+message-same : (level offset : ℕ) (a b : List ℕ) → length a ≡ length b → block_message level offset a ≡ block_message level offset b → a ≡ b
+message-same zero offset [] [] long same = refl
+message-same zero offset [] (y ∷ b) long same = absurd (omega (arith, long))
+message-same zero offset (x ∷ a) [] long same = absurd (omega (arith, long))
+message-same zero offset (x ∷ a) (y ∷ b) long same = behind-same 0 offset (x ∷ a) (y ∷ b) long same
+message-same (suc level) offset a b long same = behind-same (suc level) offset a b long same
 
 block-same : (level offset : ℕ) (a b : List ℕ) → AreBytes a → AreBytes b → length a ≡ length b
     → block_digest level offset a ≡ block_digest level offset b → (a ≡ b) ⊎ ACollision
 unfolding block_digest
 block-same level offset a b bytes_a bytes_b long same =
-    elim (inputs-same (message level offset a) (message level offset b) (message-are level offset a bytes_a) (message-are level offset b bytes_b) (ap (λ (d : Digest). d.0) same)) [
+    elim (inputs-same (block_message level offset a) (block_message level offset b) (message-are level offset a bytes_a) (message-are level offset b bytes_b) (ap (λ (d : Digest). d.0) same)) [
       | inl e ↦ inl (message-same level offset a b long e)
       | inr c ↦ inr c
     ]

@@ -1,12 +1,12 @@
 -- The levels over whole lists: their lengths, their digests' lengths, and the root.
-use Rattle.std.proofs.Common.{◌≡◌, ℕ, zero, suc, ◌*◌, ◌<◌, ◌≤◌, List, [], ◌∷◌, length, map, refl, sym, ap, subst, ◌∙◌, arith, length-append, take_all}
+use Rattle.std.proofs.Common.{◌≡◌, ℕ, zero, suc, ◌*◌, ◌<◌, ◌≤◌, List, [], ◌∷◌, ◌++◌, length, map, replicate, refl, sym, ap, subst, ◌∙◌, arith, length-append, take_all}
 use Rattle.std.specs.Prelude.{max}
 use Rattle.std.specs.List.{range_with_len}
 use Rattle.std.specs.Int.{div_ceil}
 use Rattle.std.proofs.lemmas.List.FromFn.{length-map-range_with_len}
 use Rattle.sha2.specs.Sha256.{sha256, digest_bytes}
 use Rattle.spec_tree.specs.declared.Digest.{Digest}
-use Rattle.spec_tree.specs.Tree.{block_digest, data_blocks, piece, level_0, level_above, level_of, levels_of, root_of, first_digest, digests_at}
+use Rattle.spec_tree.specs.Tree.{block_digest, block_message, heading, filled, data_blocks, piece, level_0, level_above, level_of, levels_of, root_of, first_digest, digests_at}
 use Rattle.spec_tree.proofs.SizesLemmas.{digests_at-top, digests_at-below, levels_of-is}
 
 -- SHA-256 gives four bytes for each word of the hash value
@@ -23,6 +23,18 @@ length-sha256 m = length-digest_bytes _ 8
 pub length-block_digest : (level offset : ℕ) (bytes : List ℕ) → length (block_digest level offset bytes).0 ≡ 32
 unfolding block_digest
 length-block_digest level offset bytes = length-sha256 _
+
+-- a block without data is hashed as the empty blob
+pub block_digest-none : (offset : ℕ) → (block_digest 0 offset []).0 ≡ sha256 (replicate 12 0)
+unfolding block_digest
+block_digest-none offset = refl
+
+-- the message of a block with data
+pub block_message-some : (level offset : ℕ) (bytes : List ℕ) → 0 < length bytes
+    → block_message level offset bytes ≡ heading level offset (length bytes) ++ filled bytes
+block_message-some zero offset [] h = absurd (omega (arith, h))
+block_message-some zero offset (b ∷ bytes) h = refl
+block_message-some (suc level) offset bytes h = refl
 
 -- how many digests a level has
 pub length-level_0 : (bytes : List ℕ) → length (level_0 bytes) ≡ max 1 (data_blocks (length bytes))

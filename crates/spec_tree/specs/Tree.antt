@@ -8,7 +8,10 @@
 -- | place   |                8 | byte offset within the level OR level, little-endian   |
 -- | length  |                4 | number of data bytes, little-endian                    |
 -- | data    |        0 to 8192 | the block's bytes                                      |
--- | padding | the rest of 8192 | zeros; none for the one block of the empty blob        |
+-- | padding | the rest of 8192 | zeros                                                  |
+--
+-- At level 0 a block without data is hashed as the one block of the empty blob, whatever its
+-- offset: place 0, length 0 and no padding, so twelve zero bytes.
 use Rattle.std.specs.Prelude.{ℕ, zero, suc, ◌+◌, ◌-◌, ◌*◌, ◌==◌, nat_le, if◌then◌else◌, max, List, [], ◌∷◌, ◌++◌, length, take, drop, map, sum_by, replicate, bit_or}
 use Rattle.std.specs.List.{range_with_len, flat_map}
 use Rattle.std.specs.Int.{w32, w64, to_le_bytes, div_ceil}
@@ -21,20 +24,18 @@ use Rattle.spec_tree.specs.declared.Digest.{Digest}
 abbrev pub filled : List ℕ → List ℕ
 filled bytes = bytes ++ replicate (8192 - length bytes) 0
 
--- data and padding: at level 0 a block without data is that of the empty blob
-abbrev pub padded_data : ℕ → List ℕ → List ℕ
-padded_data zero [] = []
-padded_data _ bytes = filled bytes
-
 -- place and length, for so many bytes of data
 abbrev pub heading : ℕ → ℕ → ℕ → List ℕ
 heading level offset count = to_le_bytes w64 (bit_or offset level) ++ to_le_bytes w32 count
 
--- the digest of the block with these bytes, at a level and a byte offset within it
+-- what is hashed of the block with these bytes, at a level and a byte offset within it
+abbrev pub block_message : ℕ → ℕ → List ℕ → List ℕ
+block_message zero _ [] = replicate 12 0
+block_message level offset bytes = heading level offset (length bytes) ++ filled bytes
+
+-- the digest of that block
 unfoldable pub block_digest : ℕ → ℕ → List ℕ → Digest
-block_digest level offset bytes = record {
-  0 = sha256 (heading level offset (length bytes) ++ padded_data level bytes);
-}
+block_digest level offset bytes = record { 0 = sha256 (block_message level offset bytes) }
 
 -- ---- the levels and the root
 

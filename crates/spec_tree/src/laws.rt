@@ -1,7 +1,8 @@
 //! Laws of the definitions: what each function here ensures holds of all values.
 
-ghost use Rattle.std.specs.Prelude.{◌≡◌, ℕ, ◌+◌, ◌*◌, ◌^◌, ◌<◌, ◌≤◌, List, [], ◌∷◌, length};
+ghost use Rattle.std.specs.Prelude.{◌≡◌, ℕ, ◌+◌, ◌*◌, ◌^◌, ◌<◌, ◌≤◌, List, [], ◌∷◌, length, replicate};
 ghost use Rattle.std.specs.Int.{div_ceil};
+ghost use Rattle.sha2.specs.Sha256.{sha256};
 ghost use Rattle.spec_tree.specs.declared.Digest.{Digest};
 ghost use Rattle.spec_tree.specs.Tree.{block_digest, level_above, level_of, levels_of, root_of, data_blocks, need_of};
 
@@ -25,6 +26,11 @@ pub fn each_level_below_has_more_digests_than_one()
 /// The root of at most one block is that block's digest.
 pub fn the_root_of_one_block_is_its_digest()
     ensures { (bytes : List ℕ) → length bytes ≤ 8192 → root_of bytes ≡ block_digest 0 0 bytes }
+{}
+
+/// At level 0 a block without data is hashed as the empty blob, whatever its offset.
+pub fn a_block_without_data_is_hashed_as_the_empty_blob()
+    ensures { (offset : ℕ) → (block_digest 0 offset []).0 ≡ sha256 (replicate 12 0) }
 {}
 
 /// A digest has the 32 bytes of SHA-256.
