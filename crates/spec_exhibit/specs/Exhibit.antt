@@ -1,5 +1,5 @@
--- What two blobs of one name show: two inputs of SHA-256 (FIPS 180-4, by `sha2`'s own word) with one
--- digest.
+-- What two blobs of one name show: two inputs of SHA-256 (FIPS 180-4, by `sha2`'s own word) with
+-- one digest.
 use Rattle.std.specs.Prelude.{◌≡◌, ◌≢◌, ◌<◌, ℕ, List, All}
 use Rattle.sha2.specs.Sha256.{sha256}
 

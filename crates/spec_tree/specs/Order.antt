@@ -1,4 +1,5 @@
--- The order of digests, by which maps keep their entries (this project's profile; as the derived `Ord` compares).
+-- The order of digests, by which maps keep their entries, as the derived `Ord` compares them. This
+-- project's profile.
 use Rattle.std.specs.Prelude.{Bool}
 use Rattle.std.specs.declared.cmp.Ordering.{Ordering}
 use Rattle.std.specs.Ordering.{nat_cmp, eq_by_cmp}

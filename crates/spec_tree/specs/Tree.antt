@@ -50,7 +50,8 @@ piece bytes i = take 8192 (drop (8192 * i) bytes)
 -- level 0: the digests of the pieces; no data is one empty piece
 unfoldable pub level_0 : List ℕ → List Digest
 level_0 bytes =
-    map (λ i. block_digest 0 (8192 * i) (piece bytes i)) (range_with_len 0 (max 1 (data_blocks (length bytes))))
+    let blocks = max 1 (data_blocks (length bytes)) in
+    map (λ i. block_digest 0 (8192 * i) (piece bytes i)) (range_with_len 0 blocks)
 
 -- block i of the level above: 256 digests, the unused places of the last block zero
 abbrev pub digest_block : List Digest → ℕ → List ℕ
@@ -59,7 +60,8 @@ digest_block digests i = filled (flat_map (λ d. d.0) (take 256 (drop (256 * i) 
 -- the level above a list of digests, which has one digest for each 256 of them
 unfoldable pub level_above : ℕ → List Digest → List Digest
 level_above level digests =
-    map (λ i. block_digest level (8192 * i) (digest_block digests i)) (range_with_len 0 (div_ceil (length digests) 256))
+    let blocks = div_ceil (length digests) 256 in
+    map (λ i. block_digest level (8192 * i) (digest_block digests i)) (range_with_len 0 blocks)
 
 -- the digests of a level
 unfoldable pub level_of : List ℕ → ℕ → List Digest
