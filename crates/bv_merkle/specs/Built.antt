@@ -12,4 +12,6 @@ pub record Built : Type 0 where
 
 -- the blocks of the levels of these bytes: those of level k + 1 hold the digests of level k
 abbrev pub tree_levels : List ℕ → List (List (List ℕ))
-tree_levels bytes = map (λ level. all_blocks (level_of bytes level)) (range_with_len 0 (levels_of (length bytes)))
+tree_levels bytes =
+    let levels = range_with_len 0 (levels_of (length bytes)) in
+    map (λ level. all_blocks (level_of bytes level)) levels

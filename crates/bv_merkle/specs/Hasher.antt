@@ -52,7 +52,8 @@ AreDigests (digest ∷ digests) = IsDigest digest × AreDigests digests
 -- these are the digests of a level so far
 pub record StandsAt (hasher : RootHasher) (level : ℕ) (digests : List Digest) : Type 0 where
   pub sized : AreDigests digests
-  pub last : 0 < length digests → block_at hasher level ≡ digest_block digests ((length digests - 1) / 256)
+  pub last : 0 < length digests
+      → block_at hasher level ≡ digest_block digests ((length digests - 1) / 256)
   pub kept : KeepsOf hasher.kept level (whole_blocks digests)
 
 -- these are the digests of a level so far, and in each of the levels above, so many in all, stand
@@ -64,9 +65,11 @@ Stands hasher (suc more) level digests =
 
 -- a level with these digests is closed: all its blocks are kept, the digests of all of them stand
 -- in the level above, and this is the last of them
-pub record Closes (hasher : RootHasher) (level : ℕ) (digests : List Digest) (last : Digest) : Type 0 where
+pub record Closes (hasher : RootHasher) (level : ℕ) (digests : List Digest) (last : Digest)
+    : Type 0 where
   pub above : Stands hasher (6 - level) (level + 1) (level_above (level + 1) digests)
-  pub last_is : last ≡ block_digest (level + 1) (8192 * ((length digests - 1) / 256)) (digest_block digests ((length digests - 1) / 256))
+  pub last_is : let block = (length digests - 1) / 256 in
+      last ≡ block_digest (level + 1) (8192 * block) (digest_block digests block)
   pub kept : KeepsOf hasher.kept level (all_blocks digests)
 
 -- how many bytes the hasher has taken

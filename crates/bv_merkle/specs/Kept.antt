@@ -13,7 +13,8 @@ row levels level = slice_index_or levels level []
 
 -- these levels, with a block put into its place, where they have that place
 abbrev pub put_block : List (List (List ℕ)) → ℕ → ℕ → List ℕ → List (List (List ℕ))
-put_block levels level index block = slice_set levels level (slice_set (row levels level) index block)
+put_block levels level index block =
+    slice_set levels level (slice_set (row levels level) index block)
 
 -- in the places that the level has stand the first of these blocks
 abbrev pub BeginsWith : List (List (List ℕ)) → ℕ → List (List ℕ) → Type 0

@@ -22,7 +22,10 @@ impl Model for Tree {
 
     ghost Value = { Built };
 
-    ghost view = { λ tree. record { root = tree.root; levels = map (λ blocks. blocks.items) tree.levels.items } };
+    ghost view = { λ tree. record {
+      root = tree.root;
+      levels = map (λ blocks. blocks.items) tree.levels.items
+    } };
 }
 
 /// Builds the tree of a blob of a size from its bytes, in pieces of any lengths.
@@ -85,7 +88,8 @@ impl Builder {
         ensures within { result ≤ length bytes.now }
         ensures size { size_of self.new ≡ size_of self.old }
         ensures built { built self.new ≡ built self.old + result }
-        ensures builds { (m : List ℕ) → Builds self.old m → Builds self.new (m ++ take result bytes.now) }
+        ensures builds { (m : List ℕ) → Builds self.old m
+            → Builds self.new (m ++ take result bytes.now) }
     {
         let held = self.held;
         let count = bytes.len().min(WINDOW_LEN - held);
@@ -104,7 +108,8 @@ impl Builder {
         requires { built self ≡ size_of self }
         ensures ok { IsOk result }
         ensures root { (m : List ℕ) → Builds self m → IfOk result (λ tree. tree.root ≡ root_of m) }
-        ensures levels { (m : List ℕ) → Builds self m → IfOk result (λ tree. tree.levels ≡ tree_levels m) }
+        ensures levels { (m : List ℕ) → Builds self m
+            → IfOk result (λ tree. tree.levels ≡ tree_levels m) }
     {
         let Builder {
             size: _,
