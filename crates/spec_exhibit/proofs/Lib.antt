@@ -1,2 +1,4 @@
 pub mod BytesLemmas
 pub mod CollisionLemmas
+pub mod ExampleLemmas
+pub mod MessageLemmas

@@ -1,6 +1,4 @@
-//! What two blobs of one name show: a collision of SHA-256.
+//! What two blobs of one name show: a collision of SHA-256 at one place in both trees.
 #![tactic(auto)]
 
-mod laws;
-
-pub use laws::one_root_has_one_blob;
+pub mod laws;
