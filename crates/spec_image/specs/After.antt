@@ -1,4 +1,4 @@
--- The metadata blocks of an image with its journal replayed.
+-- The metadata blocks of an image with its journal replayed (this project's profile).
 use Rattle.std.specs.Prelude.{ℕ, List, [], ◌∷◌, map, ◌==◌, if◌then◌else◌, is_some, unwrap_or, Option, Some, None}
 use Rattle.std.specs.List.{range_with_len, flat_map}
 use Rattle.spec_disk.specs.Disk.{block}

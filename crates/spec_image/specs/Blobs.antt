@@ -1,5 +1,5 @@
--- The blobs of a volume as a finite map from root to size and version: a list of entries in the order
--- of the roots.
+-- The blobs of a volume as a finite map from root to size and version: a list of entries in the
+-- order of the roots (this project's profile).
 use Rattle.std.specs.Prelude.{List, [], ◌∷◌}
 use Rattle.std.specs.BTreeMap.{insert_entry}
 use Rattle.spec_tree.specs.declared.Digest.{Digest}

@@ -1,8 +1,8 @@
 -- The chain of nodes that a blob has, from its inode on (this project's profile).
 --
 -- A blob with e extents has its first in the inode and six in each container behind it but the
--- last. The faults come in the order of the tests; `Count` says what was stored and what was wanted,
--- `BadLink` and `Extent` name the node that holds the link or the extent.
+-- last. The faults come in the order of the tests; `Count` says what was stored and what was
+-- wanted, `BadLink` and `Extent` name the node that holds the link or the extent.
 use Rattle.std.specs.Prelude.{ℕ, zero, suc, ◌+◌, ◌-◌, min, List, [], ◌∷◌, ◌++◌, take, sum_by, Bool, true, false, ◌==◌, nat_le, nat_lt, ◌&&◌, ◌||◌, if◌then◌else◌, Result, Ok, Err}
 use Rattle.spec_tree.specs.Tree.{need_of}
 use Rattle.spec_tree.specs.declared.Digest.{Digest}
@@ -31,7 +31,8 @@ pub record BlobRecord : Type 0 where
 
 -- where a fault came, it is the answer
 infixl 10 ◌>>=◌
-abbrev pub ◌>>=◌ : {A B : Type 0} → Result A NodeFault → (A → Result B NodeFault) → Result B NodeFault
+abbrev pub ◌>>=◌
+    : {A B : Type 0} → Result A NodeFault → (A → Result B NodeFault) → Result B NodeFault
 (Ok x) >>= f = f x
 (Err e) >>= f = Err e
 
@@ -89,7 +90,8 @@ walk ns blocks version (suc more) extents previous link = do
 -- the counts of an inode agree with its size and with each other
 unfoldable pub check_counts : Inode → Result Unit NodeFault
 check_counts i = do
-  needed ← wants (i.blocks == need_of i.version i.size) (faults.Count i.blocks (need_of i.version i.size))
+  let need : ℕ = need_of i.version i.size
+  needed ← wants (i.blocks == need) (faults.Count i.blocks need)
   few ← wants (nat_le i.blocks 65535) (faults.Count i.blocks 65535)
   some ← wants ((i.blocks == 0) || nat_le 1 i.extents) (faults.Count 0 1)
   wants (nat_le i.extents i.blocks) (faults.Count i.extents i.blocks)
@@ -108,4 +110,10 @@ chain ns blocks k = do
   rest ← walk ns blocks i.version (nodes_for i.extents - 1) (i.extents - 1) k i.next
   let extents : List Extent = first_extent i ++ rest.0
   sum ← wants (lengths extents == i.blocks) (faults.Count i.blocks (lengths extents))
-  Ok (record { root = i.root; size = i.size; version = i.version; extents = extents; nodes = k ∷ rest.1 })
+  Ok (record {
+    root = i.root;
+    size = i.size;
+    version = i.version;
+    extents = extents;
+    nodes = k ∷ rest.1;
+  })

@@ -1,8 +1,8 @@
 -- Entries that a stop may leave in a journal (this project's profile).
 --
--- A write under way when the machine stops may leave some sectors of an entry's blocks as they were.
--- Such blocks match the entry's checksum only by chance: that they don't is a premise of every
--- statement on stops.
+-- A write under way when the machine stops may leave some sectors of an entry's blocks as they
+-- were. Such blocks match the entry's checksum only by chance: that they don't is a premise of
+-- every statement on stops.
 use Rattle.std.specs.Prelude.{◌≡◌, ℕ, ◌+◌, ◌%◌, ◌<◌, ◌⊎◌, List, [], ◌∷◌, Option, Some, None, IsSomeAnd, Contains}
 use Rattle.spec_disk.specs.declared.event.Event.{Event}
 use Rattle.spec_disk.specs.Disk.{block, synced_after, last_after}
@@ -34,8 +34,9 @@ Accepts image slot e =
 
 -- two images have the same blocks in so many slots of the ring, from this one on
 abbrev pub SameSlots : Geometry → List (List ℕ) → List (List ℕ) → ℕ → ℕ → Type 0
-SameSlots g a b slot n = (k : ℕ) → k < n
-    → block a (slot_at g ((slot + k) % ring_slots g)) ≡ block b (slot_at g ((slot + k) % ring_slots g))
+SameSlots g a b slot n =
+    (k : ℕ) → k < n
+    → let at = slot_at g ((slot + k) % ring_slots g) in block a at ≡ block b at
 
 -- NoChance: each entry that the replay of j accepts is accepted in the synced disk too, the same at
 -- the same slot, or its blocks in j are those that were last written there

@@ -1,4 +1,5 @@
--- The journal of an image: its info block, and the ring of slots behind it (this project's profile).
+-- The journal of an image: its info block, and the ring of slots behind it (this project's
+-- profile).
 --
 -- An image is its list of blocks. Slots count from 0 and follow one another modulo their number.
 use Rattle.std.specs.Prelude.{ℕ, ◌+◌, ◌%◌, List, length, Option, Some}

@@ -1,4 +1,5 @@
--- What the metadata blocks of a volume say: its nodes, its bitmap and its counts.
+-- What the metadata blocks of a volume say: its nodes, its bitmap and its counts (this project's
+-- profile).
 use Rattle.std.specs.Prelude.{ℕ, ◌*◌, List, Bool}
 use Rattle.spec_record.specs.declared.geometry.Geometry.{Geometry}
 use Rattle.spec_record.specs.declared.superblock.Super.{Super}

@@ -49,6 +49,7 @@ abbrev pub replay_at : Journal → Option Info → List Entry
 replay_at j None = []
 replay_at j (Some i) = entries_from j (length j.ring) (length j.ring) i.start i.number
 
+-- the entries of a journal's replay
 unfoldable pub replay : Journal → List Entry
 replay j = replay_at j j.info
 

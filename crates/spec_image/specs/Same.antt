@@ -1,4 +1,5 @@
--- Images that agree in the parts of a volume on which a definition depends.
+-- Images that agree in the parts of a volume on which a definition depends (this project's
+-- profile).
 use Rattle.std.specs.Prelude.{◌≡◌, ℕ, ◌<◌, List, length, slice_index}
 use Rattle.spec_disk.specs.Disk.{block}
 use Rattle.spec_record.specs.declared.geometry.Geometry.{Geometry}

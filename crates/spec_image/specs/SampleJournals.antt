@@ -14,6 +14,7 @@ use Rattle.spec_image.specs.Journal.{Journal}
 abbrev pub header : ℕ → List ℕ
 header number = spelled (8 ∷ 8 ∷ 8 ∷ 8 ∷ 8 ∷ 8 ∷ []) (entry_magic ∷ number ∷ 1 ∷ 0 ∷ 1 ∷ 2 ∷ [])
 
+-- the payload of each entry
 abbrev pub payload : List ℕ
 payload = 5 ∷ 6 ∷ 7 ∷ []
 
@@ -34,31 +35,36 @@ info = record { start = 14; number = 7 }
 abbrev pub ring : List ℕ → List ℕ → List ℕ → List (List ℕ)
 ring a b c = payload ∷ commit 7 219377529 ∷ a ∷ b ∷ c ∷ replicate 9 [] ++ header 7 ∷ []
 
+-- the journal with that ring
 abbrev pub journal : List ℕ → List ℕ → List ℕ → Journal
 journal a b c = record { info = Some info; ring = ring a b c; meta = 3 }
 
--- the whole entries 8 and 9
+-- entry 8 stands whole behind entry 7
 abbrev pub with_next : Journal
 with_next = journal (header 8) payload (commit 8 1444222146)
 
+-- entry 9 stands whole behind entry 7
 abbrev pub with_gap : Journal
 with_gap = journal (header 9) payload (commit 9 285663801)
 
--- entry 8 without its commit, its payload and its header
+-- entry 8 without its commit
 abbrev pub without_commit : Journal
 without_commit = journal (header 8) payload []
 
+-- entry 8 without its payload
 abbrev pub without_payload : Journal
 without_payload = journal (header 8) [] (commit 8 1444222146)
 
+-- entry 8 without its header
 abbrev pub without_header : Journal
 without_header = journal [] payload (commit 8 1444222146)
 
+-- the volume that the image is of
 abbrev pub geometry : Geometry
 geometry = record { blocks = 2; nodes = 128; journal = 16; version = 1 }
 
 -- an image with metadata blocks of one byte each and this ring
 abbrev pub image : List (List ℕ)
 image =
-    (1 ∷ []) ∷ (2 ∷ []) ∷ (3 ∷ []) ∷ (info_front info ++ spelled (4 ∷ []) (crc32 (info_front info) ∷ []))
-    ∷ ring [] [] []
+    (1 ∷ []) ∷ (2 ∷ []) ∷ (3 ∷ [])
+    ∷ (info_front info ++ spelled (4 ∷ []) (crc32 (info_front info) ∷ [])) ∷ ring [] [] []

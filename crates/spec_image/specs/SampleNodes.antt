@@ -15,6 +15,7 @@ use Rattle.spec_image.specs.Metadata.{Metadata}
 abbrev pub at : ℕ → Extent
 at start = record { start = start; len = 1 }
 
+-- the root of the blob
 abbrev pub root : Digest
 root = record { 0 = replicate 32 1 }
 
@@ -30,7 +31,8 @@ inode next = nodes.Inode (record {
   version = 1;
 })
 
--- its container, with this previous node, count and version, whose first extent begins at this block
+-- its container, with this previous node, count and version, whose first extent begins at this
+-- block
 abbrev pub container : ℕ → ℕ → ℕ → ℕ → Node
 container previous count version start = nodes.Container (record {
   next = no_node;
@@ -40,6 +42,7 @@ container previous count version start = nodes.Container (record {
   version = version;
 })
 
+-- the first at 0, the second at every other number
 abbrev pub either_of : Node → Node → ℕ → Result Node NodeFault
 either_of first second zero = Ok first
 either_of first second (suc k) = Ok second
@@ -58,7 +61,8 @@ blob = record {
   nodes = 0 ∷ 1 ∷ [];
 }
 
--- metadata of these nodes, in which these data blocks are marked, and so many blobs, blocks and nodes are counted
+-- metadata of these nodes, in which these data blocks are marked, and so many blobs, blocks and
+-- nodes are counted
 abbrev pub metadata : Nodes → List ℕ → ℕ → ℕ → ℕ → Metadata
 metadata nodes marked blobs used_blocks used_nodes = record {
   super = record {
@@ -76,6 +80,7 @@ metadata nodes marked blobs used_blocks used_nodes = record {
 abbrev pub marks : List ℕ
 marks = 0 ∷ 2 ∷ 3 ∷ 4 ∷ 5 ∷ 6 ∷ 8 ∷ 9 ∷ []
 
+-- the inode and the container of the blob
 abbrev pub nodes_of_blob : Nodes
 nodes_of_blob = pair (inode 1) (container 0 6 1 5)
 
@@ -103,22 +108,26 @@ small_inode byte = nodes.Inode (record {
   version = 1;
 })
 
--- well-formed metadata, and metadata in which one part is wrong: a container that no inode leads to,
--- a data block in two extents, two blobs with one root, a mark past the data blocks, a count
+-- well-formed metadata; in each of those below one part is wrong
 abbrev pub good : Metadata
 good = metadata nodes_of_blob marks 1 8 2
 
+-- a container that no inode leads to
 abbrev pub orphaned : Metadata
 orphaned = metadata (pair (inode 2) (container 0 6 1 5)) marks 1 8 2
 
+-- a data block in two extents
 abbrev pub overlapping : Metadata
 overlapping = metadata (pair (small_inode 1) (small_inode 2)) (0 ∷ 2 ∷ []) 2 3 2
 
+-- two blobs with one root
 abbrev pub twice : Metadata
 twice = metadata (pair empty_inode empty_inode) (0 ∷ []) 2 1 2
 
+-- a mark past the data blocks
 abbrev pub marked_past : Metadata
 marked_past = metadata nodes_of_blob (19 ∷ marks) 1 8 2
 
+-- one block too few is counted
 abbrev pub miscounted : Metadata
 miscounted = metadata nodes_of_blob marks 1 7 2

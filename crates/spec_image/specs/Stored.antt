@@ -41,8 +41,8 @@ abbrev pub padded_block : BlobRecord → List (List ℕ) → ℕ → ℕ → Lis
 padded_block b blocks level i =
     slice_index_or blocks (sum_by (digests_at b.size) (range_with_len 1 (level - 1)) + i) []
 
--- version 2: the digests that block i of a level holds stand behind those that the levels below hold,
--- and zeros are in the unused places
+-- version 2: the digests that block i of a level holds stand behind those that the levels below
+-- hold, and zeros are in the unused places
 abbrev pub compact_block : BlobRecord → List (List ℕ) → ℕ → ℕ → List ℕ
 compact_block b blocks level i =
     let tree = concat (drop (data_blocks b.size) blocks) in
@@ -61,7 +61,8 @@ fetched_bytes b blocks w = take (window_bytes b.size w) (drop (65536 * w) (store
 -- the path of window w, as a fetch finds it
 abbrev pub fetched_path : BlobRecord → List (List ℕ) → ℕ → List (List ℕ)
 fetched_path b blocks w =
-    map (λ level. tree_block b blocks level (index_above w level)) (range_with_len 1 (levels_of b.size))
+    map (λ level. tree_block b blocks level (index_above w level))
+    (range_with_len 1 (levels_of b.size))
 
 -- every window of the blob verifies to its root and size
 abbrev pub AllVerify : Geometry → List (List ℕ) → BlobRecord → Type 0

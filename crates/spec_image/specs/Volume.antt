@@ -70,4 +70,5 @@ IsWhole image root = IsSomeAnd (bytes_of image root) (λ bytes. root_of bytes �
 -- Sound: the image has a blob with this root, and each of its windows verifies
 abbrev pub IsSound : List (List ℕ) → Digest → Type 0
 IsSound image root =
-    IsSomeAnd (metadata_of image) (λ m. IsSomeAnd (blob_in m root) (AllVerify m.super.geometry image))
+    IsSomeAnd (metadata_of image) (λ m.
+    IsSomeAnd (blob_in m root) (AllVerify m.super.geometry image))

@@ -1,4 +1,5 @@
--- What makes metadata well formed (this project's profile). A stale slot of the journal is no fault.
+-- What makes metadata well formed (this project's profile). A stale slot of the journal is no
+-- fault.
 use Rattle.std.specs.Prelude.{ℕ, zero, suc, ◌+◌, List, [], ◌∷◌, ◌++◌, length, sum_by, count_by, Bool, true, false, not, ◌==◌, nat_le, nat_lt, ◌&&◌, ◌||◌, if◌then◌else◌, Result, Ok, Err, is_ok}
 use Rattle.std.specs.List.{list_all}
 use Rattle.spec_tree.specs.declared.Digest.{Digest}
@@ -45,12 +46,14 @@ chains_with bs k = sum_by (λ b. count_by (λ n. n == k) b.nodes) bs
 abbrev pub blobs_named : List BlobRecord → Digest → ℕ
 blobs_named bs root = count_by (λ b. same_digest root b.root) bs
 
+-- the node reads, and it is an inode
 abbrev pub is_inode : Result Node NodeFault → Bool
 is_inode (Ok nodes.Free) = false
 is_inode (Ok (nodes.Inode i)) = true
 is_inode (Ok (nodes.Container c)) = false
 is_inode (Err f) = false
 
+-- the node reads, and it is a container
 abbrev pub is_container : Result Node NodeFault → Bool
 is_container (Ok nodes.Free) = false
 is_container (Ok (nodes.Inode i)) = false
@@ -89,8 +92,8 @@ abbrev pub bits_right : Metadata → Bool
 bits_right m =
     all_below m.bit_count (λ d. if m.bit d then bit_wanted m d else not (bit_wanted m d))
 
--- the superblock's three counts are right: the number of the blobs, the number of their blocks and of
--- data block 0, and the number of their nodes
+-- the superblock's three counts are right: the number of the blobs, the number of their blocks and
+-- data block 0 together, and the number of their nodes
 abbrev pub counts_right : Metadata → Bool
 counts_right m =
     (m.super.blobs == length (records_of m))

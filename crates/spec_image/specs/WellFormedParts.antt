@@ -1,10 +1,12 @@
--- What well-formed metadata is, part by part, and what its counts count.
+-- What well-formed metadata is, part by part, and what its counts count (this project's profile).
 use Rattle.std.specs.Prelude.{◌≡◌, ℕ, zero, suc, ◌+◌, ◌<◌, ◌≤◌, length, sum_by, Bool, true, ◌||◌, if◌then◌else◌, IsOk}
 use Rattle.spec_tree.specs.declared.Digest.{Digest}
 use Rattle.spec_image.specs.Chain.{lengths, chain}
 use Rattle.spec_image.specs.Metadata.{Metadata}
 use Rattle.spec_image.specs.WellFormed.{records_of, extents_with, chains_with, blobs_named, is_inode, is_container, bit_wanted}
 
+-- WellFormed: every node and chain reads, every container stands in one chain, no data block and no
+-- root is used twice, and bits and counts are right
 pub record WellFormed (m : Metadata) : Type 0 where
   pub nodes : (k : ℕ) → k < m.nodes.count → IsOk (m.nodes.read k)
   pub chains : (k : ℕ) → k < m.nodes.count → is_inode (m.nodes.read k) ≡ true

@@ -63,7 +63,7 @@ pub fn a_chain_names_its_first_fault()
         ≡ Err (faults.BadLink 0) }
     ensures not_full { chain (nodes.pair (nodes.inode 1) (nodes.container 0 5 1 5)) 16 0
         ≡ Err (faults.Count 5 6) }
-    ensures extent_past_the_blocks { chain (nodes.pair (nodes.inode 1) (nodes.container 0 6 1 16)) 16 0
+    ensures extent_past_the_end { chain (nodes.pair (nodes.inode 1) (nodes.container 0 6 1 16)) 16 0
         ≡ Err (faults.Extent 1 0) }
 {}
 

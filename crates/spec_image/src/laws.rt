@@ -70,8 +70,8 @@ pub fn the_counts_are_what_is_in_use()
         → m.super.geometry.blocks ≤ m.bit_count → CountsUse m }
 {}
 
-/// The map of some blobs stands in the order of the roots, and has at a root what the first blob with
-/// that root says.
+/// The map of some blobs stands in the order of the roots, and has at a root what the first blob
+/// with that root says.
 pub fn a_map_has_its_blobs_in_order()
     ensures order { (bs : List BlobRecord) → IsStrictlySortedBy digest_cmp (keys_of (blob_map bs)) }
     ensures value { (bs : List BlobRecord) (root : Digest)

@@ -16,5 +16,5 @@ returns-clause-other_version c = chain_version
 pub returns-clause-not_full : goal.returns-clause-not_full
 returns-clause-not_full c = chain_count
 
-pub returns-clause-extent_past_the_blocks : goal.returns-clause-extent_past_the_blocks
-returns-clause-extent_past_the_blocks c = chain_extent
+pub returns-clause-extent_past_the_end : goal.returns-clause-extent_past_the_end
+returns-clause-extent_past_the_end c = chain_extent
