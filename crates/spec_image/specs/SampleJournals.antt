@@ -1,5 +1,5 @@
--- Journals by hand, of fifteen slots in a volume of three metadata blocks. Their blocks leave out the
--- zeros at their end.
+-- Journals by hand, of fifteen slots in a volume of three metadata blocks. Blocks shorter than a
+-- device's; the checksums are of these short blocks.
 use Rattle.std.specs.Prelude.{ℕ, List, [], ◌∷◌, ◌++◌, replicate, Some}
 use Rattle.spec_record.specs.declared.geometry.Geometry.{Geometry}
 use Rattle.spec_record.specs.declared.info.Info.{Info}

@@ -1,5 +1,6 @@
--- Blocks by hand of a blob with 257 data blocks, the last of one byte, and two levels of digests: two
--- blocks and one.
+-- Blocks by hand of a blob with 257 data blocks, the last of one byte, and two levels of digests:
+-- two blocks and one. The data blocks are shorter than a device's, and in version 1 those of digests
+-- too.
 use Rattle.std.specs.Prelude.{ℕ, List, [], ◌∷◌, ◌++◌, map, take, drop, replicate}
 use Rattle.std.specs.List.{range_with_len, flat_map}
 use Rattle.spec_tree.specs.Tree.{filled}
@@ -15,7 +16,7 @@ blob version = record {
   nodes = [];
 }
 
--- so many blocks, each of one byte that is its number
+-- so many blocks shorter than a device's, each of one byte that is its number
 abbrev pub numbered : ℕ → List (List ℕ)
 numbered n = map (λ k. k ∷ []) (range_with_len 0 n)
 
