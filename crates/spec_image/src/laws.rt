@@ -64,7 +64,7 @@ pub fn well_formed_metadata_has_all_its_parts()
 {}
 
 /// The counts of well-formed metadata are the inodes in use, the bits that are set and the nodes in
-/// use, where the bitmap has a bit for each data block.
+/// use, where the bitmap isn't empty and has a bit for each data block.
 pub fn the_counts_are_what_is_in_use()
     ensures { (m : Metadata) → WellFormed m → 0 < m.bit_count
         → m.super.geometry.blocks ≤ m.bit_count → CountsUse m }
