@@ -4,7 +4,7 @@ use Rattle.std.proofs.lemmas.List.{length-take, get_or-take, get_or-drop, get_or
 use Rattle.std.specs.List.{range_with_len}
 use Rattle.spec_disk.specs.Disk.{block}
 use Rattle.spec_record.specs.declared.geometry.Geometry.{Geometry}
-use Rattle.spec_record.specs.Geometry.{meta_blocks, ring_slots, slot_at, ring_in}
+use Rattle.spec_record.specs.Geometry.{meta_blocks, ring_slots, slot_at, ring_in, total_blocks}
 use Rattle.spec_record.specs.Info.{info_of}
 use Rattle.spec_image.specs.Same.{SameJournal, SameMetadata}
 use Rattle.spec_image.specs.Journal.{Journal, journal_of}
@@ -13,6 +13,10 @@ use Rattle.spec_image.specs.After.{payloads_of, last_naming, after}
 
 pub length-ring : (g : Geometry) (image : List (List ℕ)) → length (ring_in g image) ≡ min (ring_slots g) (length image - slot_at g 0)
 length-ring g image = length-take (ring_slots g) (drop (slot_at g 0) image) ∙ ap (min (ring_slots g)) (length-drop (slot_at g 0) image)
+
+-- an image that holds all blocks has the whole ring
+pub length-whole_ring : (g : Geometry) (image : List (List ℕ)) → total_blocks g ≤ length image → length (ring_in g image) ≡ ring_slots g
+length-whole_ring g image whole = omega (arith, length-ring g image, whole)
 
 -- the block in a slot
 pub ring_slot : (g : Geometry) (image : List (List ℕ)) (s : ℕ) → s < ring_slots g → get_or (ring_in g image) s [] ≡ block image (slot_at g s)
@@ -23,7 +27,7 @@ ring_slot g image s lt =
 ring_same : (g : Geometry) (a b : List (List ℕ)) → SameJournal g a b → ring_in g a ≡ ring_in g b
 ring_same g a b s =
     let long : length (ring_in g a) ≡ length (ring_in g b) =
-    length-ring g a ∙ ap (λ (n : ℕ). min (ring_slots g) (n - slot_at g 0)) s.as_long ∙ sym (length-ring g b) in
+    length-whole_ring g a s.first_whole ∙ sym (length-whole_ring g b s.second_whole) in
     same_lists (ring_in g a) (ring_in g b) long (λ k d lt.
     let below : k < ring_slots g = omega (arith, length-ring g a) in
     get_or_default (ring_in g a) k d [] lt ∙ ring_slot g a k below ∙ s.slots k below ∙ sym (ring_slot g b k below)

@@ -25,7 +25,8 @@ use Rattle.spec_image.specs.Volume.{image_super, HasGeometry}
 use Rattle.spec_image.specs.Chance.{placed_from, placed_at, Accepts, SameSlots, NoChance}
 use Rattle.spec_image.specs.Torn.{bears, slot_block, IsUnfinished, IsFinished, TornAdd}
 use Rattle.spec_image.proofs.ReplayLemmas.{slots_more, slot_after, entries_stand, entries_go_on, few_entries}
-use Rattle.spec_image.proofs.SameLemmas.{length-ring, ring_slot}
+use Rattle.spec_image.proofs.VolumeLemmas.{some_and}
+use Rattle.spec_image.proofs.SameLemmas.{length-whole_ring, ring_slot}
 use Rattle.spec_image.proofs.EntryLemmas.{entry_read, read_slots, entry_local, length-ring_from, ring_from_get, count_of, commit_test}
 
 -- ---- lengths
@@ -48,11 +49,6 @@ super_long bytes n s is =
     let fits : total_blocks (super_in bytes).geometry ≤ n = at_most (total_blocks (super_in bytes).geometry) n r.0.1.1.1.1.1.1.1.1.1.1.1.1.0 in
     subst (λ (x : Super). total_blocks x.geometry ≤ n) r.1 fits
 
--- what holds of a value with an equation
-some_and : {A B : Type 0} (o : Option A) (f : A → B) (b : B) → IsSomeAnd o (λ x. f x ≡ b) → (x : A) × (o ≡ Some x) × (f x ≡ b)
-some_and (Some x) f b e = (x, refl, e)
-some_and None f b e = absurd e
-
 to_some : {A B : Type 0} (o : Option A) (f : A → B) (b : B) (Q : B → Type 0) → IsSomeAnd o (λ x. f x ≡ b) → Q b → IsSomeAnd o (λ x. Q (f x))
 to_some (Some x) f b Q e q = subst Q (sym e) q
 to_some None f b Q e q = absurd e
@@ -72,7 +68,7 @@ has_total g image h =
     subst (λ (x : Geometry). total_blocks x ≤ length image) s.2 fits
 
 has_ring : (g : Geometry) (image : List (List ℕ)) → total_blocks g ≤ length image → HasRing g image
-has_ring g image fits = omega (arith, length-ring g image, fits)
+has_ring g image fits = length-whole_ring g image fits
 
 -- ---- slots
 

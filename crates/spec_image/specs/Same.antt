@@ -1,13 +1,15 @@
 -- Images that agree in the parts of a volume on which a definition depends (this project's
 -- profile).
-use Rattle.std.specs.Prelude.{◌≡◌, ℕ, ◌<◌, List, length, slice_index}
+use Rattle.std.specs.Prelude.{◌≡◌, ℕ, ◌<◌, ◌≤◌, List, length, slice_index}
 use Rattle.spec_disk.specs.Disk.{block}
 use Rattle.spec_record.specs.declared.geometry.Geometry.{Geometry}
-use Rattle.spec_record.specs.Geometry.{meta_blocks, ring_slots, info_at, slot_at, block_at}
+use Rattle.spec_record.specs.Geometry.{meta_blocks, ring_slots, info_at, slot_at, block_at, total_blocks}
 
--- two images of one length with the same info block and the same block in each slot of the ring
+-- two images that hold all blocks of this geometry, with the same info block and the same block in
+-- each slot of the ring
 pub record SameJournal (g : Geometry) (a b : List (List ℕ)) : Type 0 where
-  pub as_long : length a ≡ length b
+  pub first_whole : total_blocks g ≤ length a
+  pub second_whole : total_blocks g ≤ length b
   pub info : block a (info_at g) ≡ block b (info_at g)
   pub slots : (s : ℕ) → s < ring_slots g → block a (slot_at g s) ≡ block b (slot_at g s)
 

@@ -32,8 +32,9 @@ pub fn a_journal_has_one_replay()
     ensures alone { (j : Journal) (a b : List Entry) → IsReplay j a → IsReplay j b → a ≡ b }
 {}
 
-/// The replay of an image depends on the info block and the ring alone, the replayed metadata and
-/// the map on these and the metadata blocks, and the bytes of a blob on its own blocks.
+/// In images that hold all blocks of a geometry, of whatever length, the replay depends on the info
+/// block and the ring alone, and the replayed metadata and the map on these and the metadata blocks.
+/// The bytes of a blob depend on its own blocks.
 pub fn an_image_depends_on_its_parts()
     ensures replay { (g : Geometry) (a b : List (List ℕ)) → SameJournal g a b
         → replay (journal_of g a) ≡ replay (journal_of g b) }
