@@ -269,6 +269,18 @@ contains_one b at f es slot e one is =
       | inr same ↦ (ap (λ (x : ℕ × Entry). x.0) same, ap (λ (x : ℕ × Entry). x.1) same)
     ]
 
+-- an image without entries accepts none
+placed_none : (j : Journal) (o : Option Info) → replay j ≡ [] → placed_at j o ≡ []
+placed_none j None none = refl
+placed_none j (Some i) none = ap (placed_from j i.start) none
+
+pub no_entries : (g : Geometry) (base : List (List ℕ)) (p : List Event) (j : List (List ℕ)) → HasGeometry j g → replay (journal_of g j) ≡ [] → NoChance base p j
+no_entries g base p j has none s slot e is accepted =
+    let journal = journal_of g j in
+    let nowhere : Contains [] (slot, e) =
+    subst (λ (l : List (ℕ × Entry)). Contains l (slot, e)) (placed_none journal journal.info none) (accepts_in g j slot e has accepted) in
+    absurd (omega (arith, nowhere.1))
+
 module _ (g : Geometry) (i : Info) (base : List (List ℕ)) (p : List Event) (j : List (List ℕ)) (t : TornAdd g i base p j) where
   abbrev Synced : List (List ℕ)
   Synced = synced_after base p

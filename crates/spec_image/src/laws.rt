@@ -53,6 +53,13 @@ pub fn a_torn_add_is_no_chance()
         → TornAdd g i base p j → NoChance base p j }
 {}
 
+/// An image whose replay has no entry isn't one by chance, whatever was being written: so where a
+/// checkpoint has left every entry before the journal's start, and where no info block is read.
+pub fn an_image_without_entries_is_no_chance()
+    ensures { (g : Geometry) (base : List (List ℕ)) (p : List Event) (j : List (List ℕ))
+        → HasGeometry j g → replay (journal_of g j) ≡ [] → NoChance base p j }
+{}
+
 /// Where each window of a blob verifies, its bytes have its root.
 pub fn a_sound_blob_is_whole()
     ensures { (image : List (List ℕ)) (root : Digest) → IsSound image root → IsWhole image root }
