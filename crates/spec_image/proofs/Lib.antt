@@ -4,6 +4,7 @@ pub mod EntryLemmas
 pub mod TornLemmas
 pub mod DigestBlockLemmas
 pub mod WholeLemmas
+pub mod HonestLemmas
 pub mod SoundLemmas
 pub mod SampleJournalLemmas
 pub mod SampleNodeLemmas

@@ -62,10 +62,10 @@ window_there size m i lt =
     window_below size (window_under m i) (subst (λ (x : ℕ). 8 * window_under m i < x) (digests_at-zero size) first)
 
 -- the block above a block
-index_next : (w level : ℕ) → index_above w (suc level) ≡ index_above w level / 256
+pub index_next : (w level : ℕ) → index_above w (suc level) ≡ index_above w level / 256
 index_next w level = ap (λ (x : ℕ). 8 * w / x) (pow-suc 256 level) ∙ sym (div-div-eq-div-mul (8 * w) (256 ^ level) 256)
 
-index_first : (w : ℕ) → index_above w 0 ≡ 8 * w
+pub index_first : (w : ℕ) → index_above w 0 ≡ 8 * w
 index_first w = omega arith
 
 -- a piece of a window is a piece of the blob
@@ -95,21 +95,21 @@ all_there size content h =
 one_digest : (a b : Digest) → a.0 ≡ b.0 → a ≡ b
 one_digest a b e = λ i. record { 0 = e i }
 
-chosen_yes : {A : Type 0} (a b : ℕ) (x y : A) → a ≡ b → (if a == b then x else y) ≡ x
+pub chosen_yes : {A : Type 0} (a b : ℕ) (x y : A) → a ≡ b → (if a == b then x else y) ≡ x
 chosen_yes a b x y e = let t : eqb a b ≡ true = grind (arith, e) in rw t refl
 
-chosen_no : {A : Type 0} (a b : ℕ) (x y : A) → a ≢ b → (if a == b then x else y) ≡ y
+pub chosen_no : {A : Type 0} (a b : ℕ) (x y : A) → a ≢ b → (if a == b then x else y) ≡ y
 chosen_no a b x y e = let t : eqb a b ≡ false = grind (arith, e) in rw t refl
 
-used_same : (size m i : ℕ) → min 256 (digests_at size m - 256 * i) ≡ used_places size (suc m) i
+pub used_same : (size m i : ℕ) → min 256 (digests_at size m - 256 * i) ≡ used_places size (suc m) i
 used_same size m i = let e : m ≡ suc m - 1 = omega arith in ap (λ (n : ℕ). min 256 (digests_at size n - 256 * i)) e
 
-above_count : (size m i n : ℕ) → n ≡ digests_at size m → i < digests_at size (suc m) → i < div_ceil n 256
+pub above_count : (size m i n : ℕ) → n ≡ digests_at size m → i < digests_at size (suc m) → i < div_ceil n 256
 above_count size m i n is lt =
     let up : suc m ≡ m + 1 = omega arith in
     subst (λ (k : ℕ). i < div_ceil k 256) (sym is) (subst (λ (k : ℕ). i < k) (ap (digests_at size) up ∙ digests_at-more size m) lt)
 
-first_up : (w k : ℕ) → k < 8 → index_above w (0 + 1) ≡ (8 * w + k) / 256
+pub first_up : (w k : ℕ) → k < 8 → index_above w (0 + 1) ≡ (8 * w + k) / 256
 first_up w k few = omega (arith, few)
 
 module _ (name : Digest) (size : ℕ) (content : List ℕ) (block_of : ℕ → ℕ → List ℕ) where

@@ -9,6 +9,7 @@ pub mod Blobs
 pub mod WellFormed
 pub mod WellFormedParts
 pub mod Window
+pub mod Honest
 pub mod Stored
 pub mod Volume
 pub mod Chance

@@ -1,6 +1,6 @@
 -- Blocks by hand of a blob with 257 data blocks, the last of one byte, and two levels of digests:
--- two blocks and one. The data blocks are shorter than a device's, and in version 1 those of digests
--- too.
+-- two blocks and one. The data blocks are shorter than a device's, and in version 1 those of
+-- digests too.
 use Rattle.std.specs.Prelude.{ℕ, List, [], ◌∷◌, ◌++◌, map, take, drop, replicate}
 use Rattle.std.specs.List.{range_with_len, flat_map}
 use Rattle.spec_tree.specs.Tree.{filled}

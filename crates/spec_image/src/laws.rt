@@ -1,11 +1,12 @@
 //! Laws of the definitions: what each function here ensures holds of all values.
 
-ghost use Rattle.std.specs.Prelude.{◌≡◌, ◌<◌, ◌≤◌, ℕ, List, [], true, find, Some, IsSomeAnd, option_map};
+ghost use Rattle.std.specs.Prelude.{◌≡◌, ◌<◌, ◌≤◌, ℕ, List, [], length, true, find, Some, IsSomeAnd, option_map};
 ghost use Rattle.std.specs.BTreeMap.{is_at};
 ghost use Rattle.std.specs.List.Sorted.{IsStrictlySortedBy};
 ghost use Rattle.std.specs.Map.{lookup, keys_of};
 ghost use Rattle.spec_disk.specs.declared.event.Event.{Event};
 ghost use Rattle.spec_tree.specs.declared.Digest.{Digest};
+ghost use Rattle.spec_tree.specs.Tree.{root_of, windows_of};
 ghost use Rattle.spec_tree.specs.Order.{digest_cmp, same_digest};
 ghost use Rattle.spec_record.specs.declared.geometry.Geometry.{Geometry};
 ghost use Rattle.spec_record.specs.declared.info.Info.{Info};
@@ -19,6 +20,8 @@ ghost use Rattle.spec_image.specs.Blobs.{value_of, blob_map};
 ghost use Rattle.spec_image.specs.Chain.{BlobRecord};
 ghost use Rattle.spec_image.specs.Stored.{blocks_of, bytes_in};
 ghost use Rattle.spec_image.specs.Chance.{NoChance};
+ghost use Rattle.spec_image.specs.Honest.{window_of, path_of};
+ghost use Rattle.spec_image.specs.Window.{Verifies};
 ghost use Rattle.spec_image.specs.Metadata.{Metadata};
 ghost use Rattle.spec_image.specs.Torn.{TornAdd};
 ghost use Rattle.spec_image.specs.WellFormed.{is_well_formed};
@@ -33,8 +36,8 @@ pub fn a_journal_has_one_replay()
 {}
 
 /// In images that hold all blocks of a geometry, of whatever length, the replay depends on the info
-/// block and the ring alone, and the replayed metadata and the map on these and the metadata blocks.
-/// The bytes of a blob depend on its own blocks.
+/// block and the ring alone, the replayed metadata and the map on these and the metadata blocks. The
+/// bytes of a blob depend on its own blocks.
 pub fn an_image_depends_on_its_parts()
     ensures replay { (g : Geometry) (a b : List (List ℕ)) → SameJournal g a b
         → replay (journal_of g a) ≡ replay (journal_of g b) }
@@ -58,6 +61,13 @@ pub fn a_torn_add_is_no_chance()
 pub fn an_image_without_entries_is_no_chance()
     ensures { (g : Geometry) (base : List (List ℕ)) (p : List Event) (j : List (List ℕ))
         → HasGeometry j g → replay (journal_of g j) ≡ [] → NoChance base p j }
+{}
+
+/// A window that is cut from a blob, with the blocks of digests that lie over it, verifies to the
+/// blob's root and size.
+pub fn an_honest_window_verifies()
+    ensures { (bytes : List ℕ) (w : ℕ) → w < windows_of (length bytes)
+        → Verifies (root_of bytes) (length bytes) w (window_of bytes w) (path_of bytes w) }
 {}
 
 /// Where each window of a blob verifies, its bytes have its root.
