@@ -17,7 +17,7 @@ pub record HeldSink : Type 0 where
   pub faults : ℕ
   pub short : ℕ
 
--- the number of the next call, from 1; the last number of a `u64` stays
+-- the number of the next call, from 1, or a count with one more; the last number of a `u64` stays
 abbrev pub next_call : ℕ → ℕ
 next_call calls = min (calls + 1) (2 ^ 64 - 1)
 

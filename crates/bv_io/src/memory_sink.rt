@@ -1,6 +1,6 @@
 //! A sink that keeps its bytes in memory, whose calls fail where it was told so.
 ghost use Rattle.std.specs.Prelude.{◌≡◌, ◌⊎◌, ◌≤◌, [], ◌++◌, length, Some, IfOk, OnOk, OnErr, IsErr};
-ghost use Rattle.bv_io.specs.Faults.{CountsFaults, Rose};
+ghost use Rattle.bv_io.specs.Faults.{CountsFaults};
 ghost use Rattle.bv_io.specs.Memory.{HeldSink, IsNamed, next_call};
 
 use crate::schedule::Schedule;
@@ -70,12 +70,13 @@ impl Sink for MemSink {
         ensures err { OnErr result (self.new.given ≡ self.old.given) }
         ensures named { IsNamed self.old.fails self.old.calls
             → IsErr result × (self.new.short ≡ self.old.short) }
-        ensures cause { OnErr result
-            (IsNamed self.old.fails self.old.calls ⊎ Rose self.old.short self.new.short) }
+        ensures cause { OnErr result (IsNamed self.old.fails self.old.calls
+            ⊎ (self.new.short ≡ next_call self.old.short)) }
         ensures short { OnOk result (self.new.short ≡ self.old.short) }
         ensures calls { self.new.calls ≡ next_call self.old.calls }
         ensures fails { self.new.fails ≡ self.old.fails }
         ensures faults { CountsFaults self.old.faults self.new.faults result }
+        ensures counted { OnErr result (self.new.faults ≡ next_call self.old.faults) }
     {
         if self.schedule.fails_next() {
             self.faults = self.faults.saturating_add(1);

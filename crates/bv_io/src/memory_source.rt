@@ -59,6 +59,7 @@ impl Source for MemSource {
         ensures calls { self.new.calls ≡ next_call self.old.calls }
         ensures fails { self.new.fails ≡ self.old.fails }
         ensures faults { CountsFaults self.old.faults self.new.faults result }
+        ensures counted { OnErr result (self.new.faults ≡ next_call self.old.faults) }
     {
         if self.schedule.fails_next() {
             self.faults = self.faults.saturating_add(1);
