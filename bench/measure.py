@@ -3,6 +3,7 @@
 A program of a bench lies in bench/NAME/main.rattle. It stands outside the gate: a script proves and
 builds it, for this processor, in a folder of its own over copies of the crates that it stands on.
 """
+import os
 import pathlib
 import resource
 import shutil
@@ -23,17 +24,20 @@ def default_blobfs():
     """The program for the processor that rt builds for by itself, kept beside the other."""
     program = TOP / "out/blobfs_default"
     crates_folder = TOP / "crates"
-    newest = max(
-        path.stat().st_mtime for part in ["src", "specs", "proofs"]
-        for path in crates_folder.glob(f"*/{part}/**/*")
-    )
+    sources = [TOP / "crates.txt"]
+    for part in ["src", "specs", "proofs"]:
+        sources += crates_folder.glob(f"*/{part}/**/*")
+    newest = max(path.stat().st_mtime for path in sources)
     if not program.exists() or program.stat().st_mtime < newest:
+        # What is saved while the build runs is newer than the program that comes of it.
+        began = time.time()
         folder = crates_folder / "bv_main"
         subprocess.run(
             ["rt", "run", "--", "--version"], cwd=folder, check=True, stdin=subprocess.DEVNULL,
             stdout=subprocess.DEVNULL, stderr=subprocess.DEVNULL,
         )
         shutil.copy(folder / "out/bv_main", program)
+        os.utime(program, (began, began))
     return program
 
 
