@@ -36,6 +36,7 @@ module _ {E B : Type 0} (session : E → ℕ) (seats : ℕ) (base : B) where
       → (v.ticket ≡ Some x.served)
       × ((x.history ≡ l) ⊎ ((e : E) × (x.history ≡ l ++ e ∷ []) × Has (session e) v.parts))
 
+  -- a view is what this account says of it: of its parts, its ticket and its taken list
   pub record Fits (x : Account E) (id : ℕ) (v : View E B) : Type 0 where
     pub parts : AllByRecursion (FitsPart x) v.parts
     pub ticket : FitsTicket x id v
@@ -48,6 +49,7 @@ module _ {E B : Type 0} (session : E → ℕ) (seats : ℕ) (base : B) where
       × (v.ticket ≡ Some x.served) × ((l : List E) × (v.taken ≡ Some l))
 
   module _ {T : Type 0} (entries : T → List E) (basis : T → B) where
+    -- the whole rule: some account fits the words, the slot and every view
     pub record OfShares (s : State (Option T) (View E B)) : Type 0 where
       pub account : Account E
       pub few : seats ≤ 16
@@ -73,8 +75,8 @@ module _ {E B : Type 0} (session : E → ℕ) (seats : ℕ) (base : B) where
           → (x : T) × (y ≡ Some x) × (entries x ≡ account.history) × (basis x ≡ base)
 
 module _ {T E B : Type 0} (session : E → ℕ) (entries : T → List E) (basis : T → B) where
-  -- All sessions in one view: each part has the value's basis and its entries of the part's session,
-  -- and each entry is of a part
+  -- All sessions in one view: each part has the value's basis and its entries of the part's
+  -- session, and each entry is of a part
   pub record Closed (ps : List (Part E B)) (x : T) : Type 0 where
     pub parts : AllByRecursion
         (λ p. (p.basis ≡ basis x) × (p.entries ≡ numbered session p.session 0 (entries x))) ps

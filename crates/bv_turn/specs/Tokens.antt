@@ -77,5 +77,6 @@ module _ {T E B : Type 0} {k : Ghosts T E B} where
       (s : Share T E B k) × (slice_get shares n ≡ Some s) × IsOf t s × IsIdle s
       × (session_of s ≡ n) × (list_of s ≡ []) × (basis_of s ≡ Some base)
 
+  -- these are the shares of a new turn, one for each session in their order
   abbrev pub AreFresh : Turn T E B → B → List (Share T E B k) → Type 0
   AreFresh t base shares = EachIndex shares (FreshAt t base shares)

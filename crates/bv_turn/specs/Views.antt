@@ -17,9 +17,11 @@ module _ {A : Type 0} where
   list_or_empty None = []
 
 module _ {E B : Type 0} where
+  -- the part of session s: the basis that it knows, and its entries with their numbers
   abbrev pub part : ℕ → B → List (ℕ × E) → Part E B
   part s b es = record { session = s; basis = b; entries = es }
 
+  -- a view of these parts, with its ticket and its taken list, where it has them
   abbrev pub view : List (Part E B) → Option ℕ → Option (List E) → View E B
   view ps ticket taken = record { parts = ps; ticket = ticket; taken = taken }
 
@@ -48,10 +50,12 @@ module _ {E B : Type 0} where
   add_first [] n e = []
   add_first (p ∷ ps) n e = part p.session p.basis (p.entries ++ (n, e) ∷ []) ∷ ps
 
+  -- the first part alone
   abbrev pub head_part : List (Part E B) → List (Part E B)
   head_part [] = []
   head_part (p ∷ ps) = p ∷ []
 
+  -- all parts but the first
   abbrev pub tail_parts : List (Part E B) → List (Part E B)
   tail_parts [] = []
   tail_parts (p ∷ ps) = ps
@@ -69,6 +73,7 @@ module _ {E B : Type 0} where
   abbrev pub peeled : View E B → View E B
   peeled v = view (tail_parts v.parts) v.ticket v.taken
 
+  -- the new view of a split: the first session alone
   abbrev pub peel : View E B → View E B
   peel v = view (head_part v.parts) None None
 
@@ -76,6 +81,7 @@ module _ {E B : Type 0} where
   abbrev pub merged : View E B → View E B → View E B
   merged v w = view (w.parts ++ v.parts) v.ticket v.taken
 
+  -- a view without a session, which is what a join leaves of the second
   abbrev pub gone : View E B
   gone = view [] None None
 

@@ -84,7 +84,8 @@ impl<T: Keeps> Turn<T> {
         ensures out { IsOut share.new × (held_entries share.new ≡ T.entries result.value) }
         ensures same { list_of share.new ≡ list_of share.old }
         ensures list { KnowsEntries share.new result.value }
-        ensures basis { (basis_of share.new ≡ basis_of share.old) × KnowsBasis share.new result.value }
+        ensures basis { (basis_of share.new ≡ basis_of share.old)
+            × KnowsBasis share.new result.value }
     {
         let ticket = self.draw(share);
         self.wait(rt, share, ticket);

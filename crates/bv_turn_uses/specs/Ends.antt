@@ -24,6 +24,7 @@ module _ {T B : Type 0} {k : Ghosts T Event B} where
     pub basis : basis_of new ≡ basis_of old
     pub served : Served (session_of old) script.lines.items (list_of new) whole
 
+  -- what a session's run gives back: its share as above, and whether all its lines were done
   abbrev pub EndOf : Turn T Event B → Script → Share T Event B k → Ended T Event B k → Type 0
   EndOf t script old e = ComesBack t script old e.share e.whole
 
@@ -34,7 +35,9 @@ module _ {T B : Type 0} {k : Ghosts T Event B} where
   Ends t script (s ∷ ss) (e ∷ es) (w ∷ ws) = ComesBack t script s e w × Ends t script ss es ws
   Ends t script _ _ _ = ⊥
 
-  abbrev pub AllBack : Turn T Event B → Script → List (Share T Event B k) → Back T Event B k → Type 0
+  -- each of these shares came back with its flag
+  abbrev pub AllBack : Turn T Event B → Script → List (Share T Event B k) → Back T Event B k
+      → Type 0
   AllBack t script shares b = Ends t script shares b.shares.items b.whole.items
 
 module _ {T E B : Type 0} {k : Ghosts T E B} where
@@ -44,6 +47,7 @@ module _ {T E B : Type 0} {k : Ghosts T E B} where
       (b.shares.items ≡ []) × (b.whole.items ≡ [])
       × (n ≤ vec_capacity b.shares) × (n ≤ vec_capacity b.whole)
 
+  -- the room for shares and flags is what it was
   abbrev pub SameRoom : Back T E B k → Back T E B k → Type 0
   SameRoom b c =
       (vec_capacity c.shares ≡ vec_capacity b.shares)

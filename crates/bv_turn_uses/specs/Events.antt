@@ -4,6 +4,7 @@ use Rattle.bv_turn.specs.Entries.{entries_of}
 use Rattle.bv_turn_uses.specs.declared.event.Event.{Event}
 use Rattle.bv_turn_uses.specs.declared.script.Line.{Line}
 
+-- what session s adds with this amount
 abbrev pub event : ℕ → ℕ → Event
 event s amount = record { session = s; amount = amount }
 

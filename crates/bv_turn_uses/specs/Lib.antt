@@ -1,2 +1,3 @@
+-- Sessions on threads: what each adds, and how their shares come back.
 pub mod Ends
 pub mod Events

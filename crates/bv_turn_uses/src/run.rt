@@ -22,6 +22,20 @@ struct SessionOf<T: Keeps> {
     script: Snapshot<Script>,
 }
 
+impl<T: Keeps> SessionOf<T> {
+    fn of(turn: &Turn<T>, share: &Share<T>, script: &Script) -> SessionOf<T>
+        ensures turn { result.turn.value ≡ turn.now }
+        ensures share { result.share.value ≡ share.now }
+        ensures script { result.script.value ≡ script.now }
+    {
+        SessionOf {
+            turn: Snapshot::of(turn),
+            share: Snapshot::of(share),
+            script: Snapshot::of(script),
+        }
+    }
+}
+
 impl<T: Adds> Promise<Ended<T>> for SessionOf<T> {
     ghost kept_by = { λ p r. EndOf p.turn.value p.script.value p.share.value r };
 }
@@ -38,7 +52,7 @@ struct Back<T: Keeps> {
 fn run_each<R: Threads + Wait + Sync, T: Adds + Send>(
     rt: &R,
     turn: &Turn<T>,
-    shares: Vec<Share<T>>,
+    mut shares: Vec<Share<T>>,
     script: &Script,
     back: Back<T>,
 ) -> Back<T>
@@ -47,32 +61,26 @@ fn run_each<R: Threads + Wait + Sync, T: Adds + Send>(
     ensures back { AllBack turn.now script.now shares.items result }
     ensures room { SameRoom back result }
 {
-    let mut left = shares;
-    let Some(share) = left.pop() else {
+    let Some(share) = shares.pop() else {
         return back;
     };
     thread::scope(
         thread::scope_env(),
         rt,
         |scope| -> Back<T>
-            requires { IsSync R.row × All (IsReady turn.now) left.items × IsReady turn.now share
-                × IsEmptyFor (vec_len left + 1) back }
-            ensures { AllBack turn.entry.now script.entry.now (left.items ++ share ∷ []) result
+            requires { IsSync R.row × All (IsReady turn.now) shares.items × IsReady turn.now share
+                × IsEmptyFor (vec_len shares + 1) back }
+            ensures { AllBack turn.entry.now script.entry.now (shares.items ++ share ∷ []) result
                 × SameRoom back result }
         {
-            let promise = SessionOf {
-                turn: Snapshot::of(turn),
-                share: Snapshot::of(&share),
-                script: Snapshot::of(script),
-            };
             let started = scope.spawn_with(
-                promise,
+                SessionOf::of(turn, &share, script),
                 move || -> Ended<T>
                     requires { IsReady turn.now share }
                     ensures { EndOf turn.entry.now script.entry.now share result }
                 { run_session(rt, turn, share, script) },
             );
-            let back = run_each(rt, turn, left, script, back);
+            let back = run_each(rt, turn, shares, script, back);
             let ended = match started {
                 Ok(child) => child.join(rt),
                 Err(refused) => (refused.value)(),

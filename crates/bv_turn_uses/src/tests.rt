@@ -1,3 +1,4 @@
+//! Sessions over a list of events, each on a thread of its own.
 use crate::journal::Journal;
 use crate::run::run_sessions;
 use crate::script::{Line, Script};
