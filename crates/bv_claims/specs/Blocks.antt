@@ -32,7 +32,8 @@ abbrev pub Rises : ℕ → List ℕ → ℕ → Type 0
 Rises low [] high = Unit {0}
 Rises low (b ∷ bs) high = (low ≤ b) × (b < high) × Rises (b + 1) bs high
 
--- blocks from `start` to the last in rising order, and then blocks from 1 to below `start` in rising order
+-- blocks from `start` to the last in rising order, and then blocks from 1 to below `start`, also in
+-- rising order
 pub record IsInCyclicOrder (start blocks : ℕ) (bs : List ℕ) : Type 0 where
   pub from_start : List ℕ
   pub from_one : List ℕ

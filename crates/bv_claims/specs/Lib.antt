@@ -1,3 +1,4 @@
+-- Reservations of blocks: their rule, what each step tells, and what callers say of tokens.
 pub mod Blocks
 pub mod Views
 pub mod Rule

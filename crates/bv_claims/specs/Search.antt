@@ -6,7 +6,8 @@ use Rattle.bv_claims.specs.Rule.{IsOutside}
 
 -- The blocks from `low` on and below `high` were searched, with the view v and the gains had
 -- before it, and w and has after it. Where a budget is left, each of these blocks was tried.
-pub record HasSearched (low high : ℕ) (v : View) (had : List ℕ) (w : View) (has : List ℕ) : Type 0 where
+pub record HasSearched (low high : ℕ) (v : View) (had : List ℕ) (w : View) (has : List ℕ)
+    : Type 0 where
   pub more : List ℕ
   pub rising : Rises low more high
   pub owned : w.owned ≡ v.owned ++ more
@@ -18,7 +19,8 @@ pub record HasSearched (low high : ℕ) (v : View) (had : List ℕ) (w : View) (
 
 -- The boss with view v took over the gains had and a budget of left, and has spent it: with the
 -- view w it owns the gains has besides, each block once and within the table.
-pub record HasCompleted (v : View) (had : List ℕ) (left : ℕ) (w : View) (has : List ℕ) : Type 0 where
+pub record HasCompleted (v : View) (had : List ℕ) (left : ℕ) (w : View) (has : List ℕ)
+    : Type 0 where
   pub owned : w.owned ≡ v.owned ++ has
   pub count : length has ≡ length had + left
   pub kept : IsPartOf had has

@@ -23,7 +23,8 @@ IsClearOf st b = (st.word ≡ b / 64) × (st.first + 2 ^ (b % 64) ≡ 2 ^ 64 - 1
 abbrev pub ClaimTells : Step (Unit {0}) → Seated → ℕ → Seated → Type 0
 ClaimTells st m found m' =
     (m'.1 ≡ m.1)
-    × ((b : ℕ) → IsSetOf st b → (bit_at found (b % 64) ≡ 0 → m'.0 ≡ after_win b m.0) × (bit_at found (b % 64) ≢ 0 → m'.0 ≡ after_loss b m.0))
+    × ((b : ℕ) → IsSetOf st b → (bit_at found (b % 64) ≡ 0 → m'.0 ≡ after_win b m.0)
+    × (bit_at found (b % 64) ≢ 0 → m'.0 ≡ after_loss b m.0))
 
 -- a look at a word: where every bit was 1, each block of the word was seen taken
 abbrev pub LookTells : Step (Unit {0}) → Seated → ℕ → Seated → Type 0
@@ -34,7 +35,9 @@ LookTells st m found m' =
 
 -- the boss holds a block out of its room
 abbrev pub HoldTells : Step (Unit {0}) → Seated → ℕ → Seated → Type 0
-HoldTells st m found m' = (m'.1 ≡ m.1) × ((b : ℕ) → IsSetOf st b → (0 < m.0.room) × (m'.0 ≡ after_hold b m.0))
+HoldTells st m found m' =
+    (m'.1 ≡ m.1)
+    × ((b : ℕ) → IsSetOf st b → (0 < m.0.room) × (m'.0 ≡ after_hold b m.0))
 
 -- the boss frees a block
 abbrev pub FreeTells : Step (Unit {0}) → Seated → ℕ → Seated → Type 0

@@ -13,7 +13,14 @@ boss_count v = if v.boss then 1 else 0
 
 -- the boss of a new table, who may still give out every block but block 0
 abbrev pub first_view : ℕ → View
-first_view blocks = record { boss = true; blocks = blocks; owned = []; saw = []; budget = 0; room = blocks - 1 }
+first_view blocks = record {
+  boss = true;
+  blocks = blocks;
+  owned = [];
+  saw = [];
+  budget = 0;
+  room = blocks - 1;
+}
 
 -- win: the block is gained for one of the budget
 abbrev pub after_win : ℕ → View → View

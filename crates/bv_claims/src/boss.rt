@@ -40,8 +40,8 @@ impl Boss {
         self.room
     }
 
-    /// Gives out a budget of `need` blocks, to be claimed from the block `start` on. The claim takes
-    /// no memory, since its list is made here. On an `Err` the boss is as it was.
+    /// Gives out a budget of `need` blocks, to be claimed from the block `start` on. The claim
+    /// takes no memory, since its list is made here. On an `Err` the boss is as it was.
     pub fn grant(
         &mut self,
         alloc: Global,

@@ -51,9 +51,9 @@ impl Claims {
         self.table.word_count() as u64
     }
 
-    /// Claims free blocks until the budget is spent: those from the grant's start on, and then those
-    /// from 1 to below the start, each tried at most once. A block is won by one `fetch_or`, and a
-    /// word that is full costs one load. It waits for nobody and takes no memory.
+    /// Claims free blocks until the budget is spent: those from the grant's start on, and then
+    /// those from 1 to below the start, each tried at most once. A block is won by one `fetch_or`,
+    /// and a word that is full costs one load. It waits for nobody and takes no memory.
     ///
     /// A block that comes free while the claim goes on may be missed. So some budget may be left
     /// though the table has that many free blocks; [`Boss::take`] finds them.

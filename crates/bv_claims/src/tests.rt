@@ -133,7 +133,8 @@ fn take_both(
     first: Claimed,
     second: Claimed,
 ) -> (Vec<u64>, Vec<u64>)
-    requires { IsBossOf claims.now boss.old × IsClaimedOf claims.now first × IsClaimedOf claims.now second }
+    requires { IsBossOf claims.now boss.old
+        × IsClaimedOf claims.now first × IsClaimedOf claims.now second }
     ensures table { IsBossOf claims.now boss.new }
     ensures owned { IsPartOf (result.0.items ++ result.1.items) (boss_owned boss.new) }
 {
