@@ -49,29 +49,9 @@ pub fn run_plain<D: Device, S: Source, K: Sink>(
         (change (K.given out.old) (K.given out.new) (K.faults out.old) (K.faults out.new)) }
     ensures untouched { LeavesDevice (map string_bytes words.now) result.0 → result.1 ≡ dev }
 {
-    let status = obey(words, &mut dev, input, out);
-    (status, dev)
-}
-
-/// Does what the words ask for.
-fn obey<D: Device, S: Source, K: Sink>(
-    words: &[String],
-    dev: &mut D,
-    input: &mut S,
-    out: &mut K,
-) -> Status
-    ensures serves { Serves (map string_bytes words.now) result
-        (view (D.told dev.old) (D.block_count dev.old) (D.calls_made dev.old)
-        (D.fault_count dev.old))
-        (view (D.told dev.new) (D.block_count dev.new) (D.calls_made dev.new)
-        (D.fault_count dev.new))
-        (change (S.left input.old) (S.left input.new) (S.faults input.old) (S.faults input.new))
-        (change (K.given out.old) (K.given out.new) (K.faults out.old) (K.faults out.new)) }
-    ensures untouched { LeavesDevice (map string_bytes words.now) result → dev.new ≡ dev.old }
-{
     match Command::parse(words) {
-        Some(Command::Root) => root(input, out),
-        Some(Command::Format(geometry)) => format(dev, geometry, out),
-        None => refuse(out, Refusal::Usage),
+        Some(Command::Root) => (root(input, out), dev),
+        Some(Command::Format(geometry)) => (format(&mut dev, geometry, out), dev),
+        None => (refuse(out, Refusal::Usage), dev),
     }
 }

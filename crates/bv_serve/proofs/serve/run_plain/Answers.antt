@@ -2,7 +2,7 @@ use Rattle.std.proofs.Common.{refl, subst}
 use Rattle.bv_serve.specs.Words.{IsForm}
 use Rattle.std.proofs.KnownBytes.{Keeps-refl}
 use Rattle.bv_serve.proofs.ServesLemmas.{Serves-format, Serves-refused}
-use Rattle.bv_serve.proofs.serve.obey.Goals as goal
+use Rattle.bv_serve.proofs.serve.run_plain.Goals as goal
 
 pub returns-in-Some-Format-clause-serves : goal.returns-in-Some-Format-clause-serves
 returns-in-Some-Format-clause-serves g c =
