@@ -235,28 +235,76 @@ fn format_makes_a_volume_or_says_why_not(rt: HostRuntime) -> Result<(), Fail> {
     Ok(())
 }
 
+// A device of 83 blocks that held something else: its first block begins with `old head`.
+fn old_device(alloc: Global) -> Result<MemDevice, AllocError> {
+    let mut blocks = vec![in alloc; [0u8; 8192]; 83]?;
+    if let Some(first) = blocks.first_mut() {
+        first[..8].copy_from_slice(b"old head");
+    }
+    Ok(MemDevice::from_blocks(alloc, blocks))
+}
+
+// The first eight bytes of the device's first block.
+fn head(dev: &mut MemDevice) -> Option<[u8; 8]> {
+    let mut block = [0u8; 8192];
+    if dev.blocks() == 0 || dev.read(0, &mut block).is_err() {
+        return None;
+    }
+    let mut head = [0; 8];
+    head.copy_from_slice(&block[..8]);
+    Some(head)
+}
+
 #[test]
-fn each_fault_of_a_format_has_its_status_and_line(rt: HostRuntime) -> Result<(), Fail> {
+fn a_failed_call_of_a_format_has_its_status_and_leaves_a_head(rt: HostRuntime) -> Result<(), Fail> {
     let alloc = rt.alloc();
-    let words = words(alloc, &["format", "64", "128", "16"])?;
-    // Each of the 20 writes and 3 syncs in turn, then none; then each byte of the line.
-    for (kind, count) in [(CallKind::Write, 20), (CallKind::Sync, 3)] {
-        for nth in 1..count + 2 {
-            let mut dev = MemDevice::new(alloc, 83)?;
-            dev.fail(alloc, kind, nth)?;
-            let mut input = MemSource::new(Vec::new(alloc), Vec::new(alloc));
-            let mut out = MemSink::new(Vec::new(alloc), alloc);
-            let (status, dev) = run(alloc, &words, dev, &mut input, &mut out);
-            let (want, line) = if nth <= count {
-                (Status::Device, "device: fault\n")
-            } else {
-                (Status::Ok, "formatted\n")
-            };
-            assert_eq!(rt; status, want, "{kind:?} {nth}");
-            assert_eq!(rt; out.bytes(), line.as_bytes(), "{kind:?} {nth}");
-            assert_eq!(rt; dev.faults(), (nth <= count) as u64, "{kind:?} {nth}");
+    // Each of the 20 writes and 3 syncs in turn, then none. No block is read.
+    let kinds = [
+        (CallKind::Read, 0),
+        (CallKind::Write, 20),
+        (CallKind::Sync, 3),
+    ];
+    for name in ["format", "format2"] {
+        let words = words(alloc, &[name, "64", "128", "16"])?;
+        for (kind, count) in kinds {
+            for nth in 1..count + 2 {
+                let mut dev = old_device(alloc)?;
+                dev.fail(alloc, kind, nth)?;
+                let mut input = MemSource::new(Vec::new(alloc), Vec::new(alloc));
+                let mut out = MemSink::new(Vec::new(alloc), alloc);
+                let (status, dev) = run(alloc, &words, dev, &mut input, &mut out);
+                let (want, line) = if nth <= count {
+                    (Status::Device, "device: fault\n")
+                } else {
+                    (Status::Ok, "formatted\n")
+                };
+                assert_eq!(rt; status, want, "{name} {kind:?} {nth}");
+                assert_eq!(rt; out.bytes(), line.as_bytes(), "{name} {kind:?} {nth}");
+                assert_eq!(rt;
+                    dev.faults(),
+                    (nth <= count) as u64,
+                    "{name} {kind:?} {nth}"
+                );
+                // A stop that keeps only what was synced: the old head before the first sync was Ok,
+                // the new one after the last, and none between.
+                let kept = match (kind, nth) {
+                    (CallKind::Write, 1) | (CallKind::Sync, 1) => *b"old head",
+                    _ if nth <= count => [0; 8],
+                    _ => *b"blobvol\0",
+                };
+                let events = dev.trace_len();
+                let mut image = dev.stop_after(alloc, events, &[])?;
+                assert_eq!(rt; head(&mut image), Some(kept), "{name} {kind:?} {nth}");
+            }
         }
     }
+    Ok(())
+}
+
+#[test]
+fn a_sink_that_fails_gets_the_beginning_of_the_line(rt: HostRuntime) -> Result<(), Fail> {
+    let alloc = rt.alloc();
+    let words = words(alloc, &["format", "64", "128", "16"])?;
     for nth in 1..12u64 {
         let dev = MemDevice::new(alloc, 83)?;
         let mut input = MemSource::new(Vec::new(alloc), Vec::new(alloc));
