@@ -6,6 +6,10 @@ use crate::file_device::{BLOCK, FileDevice};
 use bv_device::Failed;
 use std::fs::File;
 use std::io;
+use std::os::fd::AsRawFd;
+
+/// The last of the descriptors that standard input, output and error have.
+const LAST_STREAM: i32 = 2;
 
 /// Opens and makes the machine's files, and knows nothing of what comes of it.
 #[derive(Drop)]
@@ -23,7 +27,7 @@ impl<'r> HostFiles<'r> {
 
     // The whole blocks of a file that is there.
     fn opened(&self, path: &str) -> io::Result<FileDevice<File>> {
-        let file = File::options().read(true).write(true).open(self.rt, path)?;
+        let file = off_the_streams(File::options().read(true).write(true).open(self.rt, path)?)?;
         let blocks = file.metadata()?.len() / BLOCK;
         Ok(FileDevice::new(file, blocks))
     }
@@ -33,9 +37,20 @@ impl<'r> HostFiles<'r> {
         requires { blocks < 2 ^ 51 }
         ensures { IfOk result (λ file. file.blocks ≡ blocks) }
     {
-        let file = File::create_new(self.rt, path)?;
+        let file = off_the_streams(File::create_new(self.rt, path)?)?;
         file.set_len(blocks * BLOCK)?;
         Ok(FileDevice::new(file, blocks))
+    }
+}
+
+// The file at a descriptor that is no standard stream's. Where the program was started with one of
+// these closed, the next file gets its descriptor, and what is printed would go over the volume. A
+// duplicate has another, and with `file` the stream is closed again, so that using it fails.
+fn off_the_streams(file: File) -> io::Result<File> {
+    if file.as_raw_fd() <= LAST_STREAM {
+        file.try_clone()
+    } else {
+        Ok(file)
     }
 }
 
