@@ -1,6 +1,9 @@
-"""The built program from outside: roots against hashlib, usage, help, closed and broken streams, and
-the bytes of the volumes that it makes against their format."""
+"""The built program from outside: roots against hashlib, usage, help, closed and broken streams,
+the bytes of the volumes that it makes against their format, and what the script `blobfs` adds."""
+import os
 import pathlib
+import re
+import shutil
 import subprocess
 import sys
 import tempfile
@@ -32,7 +35,8 @@ sizes = [0, 1, 8191, 8192, 8193, 65536, 65537, 524288, 2097152, 2097153, 6710886
 for size in sizes:
     data = (bytes(range(251)) * (size // 251 + 1))[:size]
     done = run(["root"], data)
-    expect(f"root of {size} bytes", (done.returncode, done.stdout), (0, root(data).hex().encode() + b"\n"))
+    wanted = root(data).hex().encode() + b"\n"
+    expect(f"root of {size} bytes", (done.returncode, done.stdout), (0, wanted))
 
 done = run(["root"], bytes(67108865))
 expect("too much input", (done.returncode, done.stdout), (2, b"input: too long\n"))
@@ -47,15 +51,31 @@ for word in ["--help", "--version"]:
     expect(f"status of {word}", done.returncode, 0)
     expect(f"text of {word}", len(done.stdout) > 10, True)
 
+# The kit that the version and README.md name is the one that is here.
+if shutil.which("rt"):
+    kit = subprocess.run(["rt", "version"], stdout=subprocess.PIPE, check=True, text=True).stdout
+    version = run(["--version"]).stdout.decode().splitlines()
+    expect("the kit of --version", version[1:], [kit.strip()])
+    named = re.search(r"^Proved with: `(.*)`\.$", (top / "README.md").read_text(), re.MULTILINE)
+    expect("the kit of README.md", named and named[1], kit.strip())
+
 with open("/dev/full", "wb") as full:
     expect("a full disk", run(["root"], stdout=full).returncode, 4)
     expect("a full disk under a refusal", run(["frob"], stdout=full).returncode, 1)
 
+
+
+def run_in_shell(line, *arguments):
+    """Runs a line of bash, in which $0 is the program."""
+    return subprocess.run(
+        ["bash", "-c", line, program, *arguments], stdout=subprocess.PIPE, check=False
+    )
+
+
 # Reading a directory fails at the first read.
-directory = subprocess.run(
-    ["bash", "-c", 'exec "$0" root < /', str(program)], stdout=subprocess.PIPE, check=False
-)
-expect("a source that fails", (directory.returncode, directory.stdout), (3, b"source: fault\n"))
+for name, line in [("a directory", 'exec "$0" root < /'), ("a closed input", 'exec "$0" root <&-')]:
+    done = run_in_shell(line)
+    expect(f"{name} as the source", (done.returncode, done.stdout), (3, b"source: fault\n"))
 
 with tempfile.TemporaryDirectory() as name:
     folder = pathlib.Path(name)
@@ -90,6 +110,24 @@ with tempfile.TemporaryDirectory() as name:
         expect(f"a file of {size} bytes", (done.returncode, done.stdout), (6, line))
         expect(f"length of a file of {size} bytes", image.stat().st_size, size)
 
+    # A standard stream that is closed stays closed: no file gets its descriptor.
+    image = folder / "closed.img"
+    wanted = empty_volume(64, 128, 16, 1)
+    for closed in [">&-", "<&- >&-", "<&- >&- 2>&-"]:
+        image.unlink(missing_ok=True)
+        done = run_in_shell(f'exec "$0" "new:83:$1" format 64 128 16 {closed}', image)
+        expect(f"status of new: with {closed}", done.returncode, 4)
+        expect(f"bytes of new: with {closed}", image.read_bytes() == wanted, True)
+        done = run_in_shell(f'exec "$0" "file:$1" format2 64 128 16 {closed}', image)
+        expect(f"status of file: with {closed}", done.returncode, 4)
+        expect(
+            f"bytes of file: with {closed}",
+            image.read_bytes() == empty_volume(64, 128, 16, 2),
+            True,
+        )
+    done = run_in_shell('exec "$0" "file:$1" root <&-', image)
+    expect("a closed input and a file", (done.returncode, done.stdout), (3, b"source: fault\n"))
+
     # Words of no form touch no file, and a file that can't be had is a device fault.
     absent = folder / "absent.img"
     for words in [
@@ -112,17 +150,46 @@ with tempfile.TemporaryDirectory() as name:
         done = run([word, "root"])
         expect(word, (done.returncode, done.stdout), (5, b"device: fault\n"))
 
-    # A file that can't grow, and want of memory.
-    limited = 'ulimit -f 64; trap "" XFSZ; exec "$0" "new:83:$1" format 64 128 16'
-    done = subprocess.run(
-        ["bash", "-c", limited, str(program), str(absent)], stdout=subprocess.PIPE, check=False
-    )
-    expect("a full file", (done.returncode, done.stdout), (5, b"device: fault\n"))
+    # A new file stays, whatever comes of the command.
+    image = folder / "stays.img"
+    done = run([f"new:82:{image}", "format", "64", "128", "16"])
+    expect("a new file too short", (done.returncode, done.stdout), (6, b"volume: short 83 82\n"))
+    expect("bytes of a new file too short", image.read_bytes() == bytes(82 * 8192), True)
+    done = run([f"new:83:{image}", "format", "64", "128", "16"])
+    expect("a file that stayed", (done.returncode, done.stdout), (5, b"device: fault\n"))
+
+    # Want of memory.
     limited = 'ulimit -v 200000; exec "$0" mem:65536 root </dev/null'
-    done = subprocess.run(
-        ["bash", "-c", limited, str(program)], stdout=subprocess.PIPE, check=False
-    )
+    done = run_in_shell(limited)
     expect("no memory", (done.returncode, done.stdout), (7, b"memory: none left\n"))
+
+    # The script, over a copy of itself whose program is the built one.
+    script = folder / "blobfs"
+    shutil.copy(top / "blobfs", script)
+    done = subprocess.run([script, "root"], capture_output=True, check=False)
+    expect("the script without a program", (done.returncode, done.stdout), (125, b""))
+    shutil.rmtree(folder / "out", ignore_errors=True)
+    (folder / "out").mkdir()
+    (folder / "out/blobfs").symlink_to(program)
+    done = subprocess.run([script, "root"], input=b"hi", capture_output=True, check=False)
+    wanted = (0, root(b"hi").hex().encode() + b"\n", b"")
+    expect("the script", (done.returncode, done.stdout, done.stderr), wanted)
+    reader, writer = os.pipe()
+    os.close(reader)
+    for words, status in [(["root"], 4), (["frob"], 1)]:
+        done = subprocess.run(
+            [script, *words], stdin=subprocess.DEVNULL, stdout=writer, check=False
+        )
+        expect(f"a pipe that nobody reads, {words}", done.returncode, status)
+    os.close(writer)
+    limited = 'ulimit -f 64; exec "$1" "new:83:$2" format 64 128 16'
+    done = run_in_shell(limited, script, absent)
+    expect("a file at its limit", (done.returncode, done.stdout), (5, b"device: fault\n"))
+    expect("what stays of it", absent.read_bytes(), b"")
+    image.unlink()
+    done = run_in_shell('exec "$1" "new:83:$2" format 64 128 16 >&-', script, image)
+    expect("the script with a closed output", done.returncode, 4)
+    expect("bytes of its file", image.read_bytes() == empty_volume(64, 128, 16, 1), True)
 
 done = run(["mem:83", "root"], b"hi")
 expect("root on a device", (done.returncode, done.stdout), (0, root(b"hi").hex().encode() + b"\n"))
