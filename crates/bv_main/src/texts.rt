@@ -27,6 +27,7 @@ devices:
   mem:BLOCKS         1 to 65536 zero blocks in memory, which are gone afterwards
   new:BLOCKS:PATH    a new file of 1 to 8388608 zero blocks; a file that is there stays as it is
   file:PATH          the whole blocks of a file that is there
+A new file stays, whatever comes of the command.
 
 The exit status is the status:
   0  done
@@ -37,7 +38,9 @@ The exit status is the status:
   5  the device failed, or the file could not be opened or made
   6  the counts are out of their limits, or the device is too short
   7  there was no memory
-At 1, 2, 3, 5, 6 and 7 one line on standard output says which.
+At 1, 2, 3, 5, 6 and 7 one line on standard output says which. A pipe that nobody reads and a
+file at its size limit end the program by a signal, unless SIGPIPE and SIGXFSZ are ignored: the
+script ./blobfs has both ignored. Where it can't build the program, it ends with status 125.
 
 example:
   printf hi | blobfs root
