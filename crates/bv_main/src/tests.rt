@@ -11,7 +11,7 @@ use bv_io::{Failed, MemSink, MemSource, Sink, Source, fill, give_all};
 use bv_serve::Status;
 use std::alloc::{AllocError, Global};
 use std::cell::Cell;
-use std::fs::{self, Metadata, OpenFile};
+use std::fs::{self, File, Metadata, OpenFile};
 use std::io::{self, Error, ErrorKind, Read};
 use std::os::unix::fs::FileExt;
 use std::test::Fail;
@@ -188,21 +188,62 @@ fn words_are_answered_as_their_forms_say(rt: HostRuntime) -> Result<(), Fail> {
     Ok(())
 }
 
+// The superblock of 64 data blocks, 128 nodes and 16 journal blocks with no blob, in version 1, but
+// its zeros. It is written out from the table of its fields.
+const SUPER: [u8; 88] = [
+    0x62, 0x6c, 0x6f, 0x62, 0x76, 0x6f, 0x6c, 0x00, 0x70, 0x72, 0x6f, 0x66, 0x69, 0x6c, 0x65, 0x31,
+    0x01, 0x00, 0x00, 0x00, 0x00, 0x00, 0x00, 0x00, 0x40, 0x00, 0x00, 0x00, 0x00, 0x00, 0x00, 0x00,
+    0x80, 0x00, 0x00, 0x00, 0x00, 0x00, 0x00, 0x00, 0x10, 0x00, 0x00, 0x00, 0x00, 0x00, 0x00, 0x00,
+    0x01, 0x00, 0x00, 0x00, 0x00, 0x00, 0x00, 0x00, 0x01, 0x00, 0x00, 0x00, 0x00, 0x00, 0x00, 0x00,
+    0x00, 0x00, 0x00, 0x00, 0x00, 0x00, 0x00, 0x00, 0x01, 0x00, 0x00, 0x00, 0x00, 0x00, 0x00, 0x00,
+    0x00, 0x00, 0x00, 0x00, 0x00, 0x00, 0x00, 0x00,
+];
+
+// The info block of an empty journal whose first entry will have number 1, but its zeros. The
+// checksum is zlib's.
+const INFO: [u8; 36] = [
+    0x6c, 0x6e, 0x72, 0x6a, 0x62, 0x6f, 0x6c, 0x62, 0x00, 0x00, 0x00, 0x00, 0x00, 0x00, 0x00, 0x00,
+    0x00, 0x00, 0x00, 0x00, 0x00, 0x00, 0x00, 0x00, 0x01, 0x00, 0x00, 0x00, 0x00, 0x00, 0x00, 0x00,
+    0x3e, 0xc0, 0xc5, 0x91,
+];
+
+// The bytes of a file of 83 blocks with this volume: the superblock in block 0, the bitmap in block
+// 1, where only data block 0 is used, and the info block in block 3.
+fn volume(alloc: Global, version: u8) -> Result<Vec<u8>, AllocError> {
+    let mut bytes = vec![in alloc; 0; 679_936]?;
+    bytes[..88].copy_from_slice(&SUPER);
+    bytes[16] = version;
+    bytes[8192] = 1;
+    bytes[24_576..24_612].copy_from_slice(&INFO);
+    Ok(bytes)
+}
+
 #[test]
 fn a_new_file_is_formatted_and_opened_again(rt: HostRuntime) -> Result<(), Fail> {
     let status = answers(&rt, "new:83:disk.img format 64 128 16", "formatted\n")?;
     assert_eq!(rt; status, Some(Status::Ok));
-    let made = fs::read(&rt, "disk.img")?;
-    assert_eq!(rt; made.len(), 83 * 8192);
-    assert!(rt; made.starts_with(b"blobvol\0profile1\x01\0\0\0".as_slice()));
+    let made = volume(rt.alloc(), 1)?;
+    assert!(rt; fs::read(&rt, "disk.img")? == made);
     let status = answers(&rt, "new:90:disk.img format2 64 128 16", "device: fault\n")?;
     assert_eq!(rt; status, Some(Status::Device));
     assert!(rt; fs::read(&rt, "disk.img")? == made);
     let status = answers(&rt, "file:disk.img format2 64 128 16", "formatted\n")?;
     assert_eq!(rt; status, Some(Status::Ok));
-    let again = fs::read(&rt, "disk.img")?;
-    assert_eq!(rt; again.len(), 83 * 8192);
-    assert!(rt; again.starts_with(b"blobvol\0profile1\x02\0\0\0".as_slice()));
+    let made = volume(rt.alloc(), 2)?;
+    assert!(rt; fs::read(&rt, "disk.img")? == made);
+    let mut dev = FileDevice::new(File::open(&rt, "disk.img")?, 83);
+    for at in [0, 3] {
+        let mut block = [0xaa; 8192];
+        assert_eq!(rt; dev.read(at, &mut block), Ok(()), "{at}");
+        let begin = at as usize * 8192;
+        assert!(rt; block.as_slice() == &made[begin..begin + 8192], "{at}");
+    }
+    fs::remove_file(&rt, "disk.img")?;
+    Ok(())
+}
+
+#[test]
+fn a_file_of_less_than_a_block_has_none(rt: HostRuntime) -> Result<(), Fail> {
     fs::write(&rt, "short.img", "less than a block")?;
     let status = answers(
         &rt,
@@ -210,7 +251,6 @@ fn a_new_file_is_formatted_and_opened_again(rt: HostRuntime) -> Result<(), Fail>
         "volume: short 83 0\n",
     )?;
     assert_eq!(rt; status, Some(Status::Volume));
-    fs::remove_file(&rt, "disk.img")?;
     fs::remove_file(&rt, "short.img")?;
     Ok(())
 }
