@@ -1,5 +1,8 @@
 //! A file as a device of blocks.
-ghost use Rattle.std.specs.Prelude.{◌≡◌, ◌<◌, ◌^◌, None};
+ghost use Rattle.std.specs.Prelude.{◌≡◌, ◌<◌, ◌^◌, ◌+◌, ◌-◌, min, None, OnOk};
+ghost use Rattle.spec_faults.specs.Faults.{CountsFaults};
+ghost use Rattle.bv_device.specs.Plan.{CountsCalls};
+ghost use Rattle.bv_main.specs.Files.{one_call_more};
 
 use bv_device::{Block, Device, Failed, LAST_CALL};
 use std::fs::OpenFile;
@@ -81,7 +84,14 @@ impl<F: FileExt + OpenFile> Device for FileDevice<F> {
     }
 
     // A write that failed may have changed part of the block, so it counts as made.
-    fn write(&mut self, at: u64, from: &Block) -> Result<(), Failed> {
+    fn write(&mut self, at: u64, from: &Block) -> Result<(), Failed>
+        requires { at < self.old.blocks }
+        ensures blocks { self.new.blocks ≡ self.old.blocks }
+        ensures asked { self.new.calls ≡ one_call_more self.old.calls }
+        ensures calls { CountsCalls 1 self.old.calls self.new.calls result }
+        ensures end { OnOk result (self.old.calls < 2 ^ 63 - 1) }
+        ensures faults { CountsFaults self.old.faults self.new.faults result }
+    {
         if self.calls < LAST_CALL {
             self.calls += 1;
             if self.file.write_all_at(from, at * BLOCK).is_ok() {
@@ -92,7 +102,13 @@ impl<F: FileExt + OpenFile> Device for FileDevice<F> {
         Err(Failed)
     }
 
-    fn sync(&mut self) -> Result<(), Failed> {
+    fn sync(&mut self) -> Result<(), Failed>
+        ensures blocks { self.new.blocks ≡ self.old.blocks }
+        ensures asked { self.new.calls ≡ one_call_more self.old.calls }
+        ensures calls { CountsCalls 1 self.old.calls self.new.calls result }
+        ensures end { OnOk result (self.old.calls < 2 ^ 63 - 1) }
+        ensures faults { CountsFaults self.old.faults self.new.faults result }
+    {
         if self.calls < LAST_CALL {
             self.calls += 1;
             if self.file.sync_data().is_ok() {
