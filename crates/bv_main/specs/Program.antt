@@ -6,7 +6,8 @@
 -- | `--version`        | the version is printed                                    |
 -- | `root`             | the top call, on a device without a block                 |
 -- | DEVICE COMMAND ..  | the top call, on the device that the first word names     |
-use Rattle.std.specs.Prelude.{◌≡◌, ◌⊎◌, ℕ, List, [], ◌∷◌, codes, map, replicate, string_bytes, Some, Result, Ok, Err}
+use Rattle.std.specs.Prelude.{◌≡◌, ◌⊎◌, ℕ, List, [], ◌∷◌, codes, map, replicate, string_bytes, Some, Result, Ok, Err, IfOk}
+use Rattle.spec_faults.specs.Faults.{CountsFaults}
 use Rattle.bv_device.specs.declared.failed.Failed.{Failed}
 use Rattle.bv_format.specs.Formats.{View}
 use Rattle.bv_serve.specs.declared.command.Command.{Command}
@@ -15,7 +16,7 @@ use Rattle.bv_serve.specs.declared.refusal.Refusal.TheVariants.{DeviceFault, NoM
 use Rattle.bv_serve.specs.declared.status.Status.{Status}
 use Rattle.bv_serve.specs.Lines.{refusal_line, refusal_status}
 use Rattle.bv_serve.specs.Runs.{Change, LeavesAlone, Prints, PrintsAt}
-use Rattle.bv_serve.specs.Serves.{Serves}
+use Rattle.bv_serve.specs.Serves.{Serves, LeavesDevice}
 use Rattle.bv_serve.specs.Words.{IsForm}
 use Rattle.bv_main.specs.declared.device_word.DeviceWord.{DeviceWord}
 use Rattle.bv_main.specs.declared.device_word.DeviceWord.TheVariants.{Mem, New, File}
@@ -57,36 +58,62 @@ memory blocks = record {
   fault_count = 0;
 }
 
--- the top call was made, on a device that was so at the call
+-- the top call was made on a device that was so at the call, and that nobody has afterwards
 abbrev pub RunsOn : View → List (List ℕ) → Status → Change → Change → Type 0
 RunsOn old command ended input out = (new : View) × Serves command ended old new input out
 
--- Below, `seen` is what a contract sees of a file, `opens` and `makes` say what came of one that was
--- opened at a path, or made there with so many blocks, and `untouched` that none was.
-module _ {D : Type 0} (seen : D → View) where
+-- Below, F is what opens files and D an open file. `seen` is what a contract sees of a file, `count`
+-- the failed openings, and the rest says what came of opening, making and closing one.
+module _ {F D : Type 0} (seen : D → View) (count : F → ℕ)
+    (opens : F → List ℕ → Result D Failed → F → Type 0)
+    (makes : F → ℕ → List ℕ → Result D Failed → F → Type 0)
+    (closes : F → D → F → Type 0) where
+  -- this came of opening the path
+  abbrev pub IsOpened : F → List ℕ → Result D Failed → F → Type 0
+  IsOpened old path made new = opens old path made new × CountsFaults (count old) (count new) made
+
+  -- this came of making a file of so many blocks at the path
+  abbrev pub IsNewFile : F → ℕ → List ℕ → Result D Failed → F → Type 0
+  IsNewFile old blocks path made new =
+      makes old blocks path made new × CountsFaults (count old) (count new) made
+      × IfOk made (λ dev. (seen dev).block_count ≡ blocks)
+
+  -- the top call was made on the open file, and what was closed is the file as that call left it
+  pub record RunsOnOpen (dev : D) (old new : F) (command : List (List ℕ)) (ended : Status)
+      (input out : Change) : Type 0 where
+    pub left : D
+    pub serves : Serves command ended (seen dev) (seen left) input out
+    pub untouched : LeavesDevice command ended → left ≡ dev
+    pub closed : closes old left new
+    pub kept : count new ≡ count old
+
   -- the top call was made on the file, or there is none
-  abbrev pub RunsOnFile : Result D Failed → List (List ℕ) → Status → Change → Change → Type 0
-  RunsOnFile (Ok dev) command ended input out = RunsOn (seen dev) command ended input out
-  RunsOnFile (Err failed) command ended input out = IsRefused DeviceFault ended input out
+  abbrev pub RunsOnFile : Result D Failed → F → F → List (List ℕ) → Status → Change → Change
+      → Type 0
+  RunsOnFile (Ok dev) old new command ended input out =
+      RunsOnOpen dev old new command ended input out
+  RunsOnFile (Err failed) old new command ended input out =
+      (new ≡ old) × IsRefused DeviceFault ended input out
 
-  module _ (untouched : Type 0) (opens : List ℕ → Result D Failed → Type 0)
-      (makes : ℕ → List ℕ → Result D Failed → Type 0) where
-    -- what is done with a command on the device that a word names
-    abbrev pub RunsOnWord : DeviceWord → List (List ℕ) → Status → Change → Change → Type 0
-    RunsOnWord (Mem blocks) command ended input out =
-        untouched × (RunsOn (memory blocks) command ended input out
-        ⊎ IsRefused NoMemory ended input out)
-    RunsOnWord (New blocks path) command ended input out =
-        (made : Result D Failed) × makes blocks path.now made
-        × RunsOnFile made command ended input out
-    RunsOnWord (File path) command ended input out =
-        (made : Result D Failed) × opens path.now made × RunsOnFile made command ended input out
+  -- what is done with a command on the device that a word names
+  abbrev pub RunsOnWord : DeviceWord → F → F → List (List ℕ) → Status → Change → Change → Type 0
+  RunsOnWord (Mem blocks) old new command ended input out =
+      (new ≡ old)
+      × (RunsOn (memory blocks) command ended input out ⊎ IsRefused NoMemory ended input out)
+  RunsOnWord (New blocks path) old new command ended input out =
+      (made : Result D Failed) × (opened : F) × IsNewFile old blocks path.now made opened
+      × RunsOnFile made opened new command ended input out
+  RunsOnWord (File path) old new command ended input out =
+      (made : Result D Failed) × (opened : F) × IsOpened old path.now made opened
+      × RunsOnFile made opened new command ended input out
 
-    -- what is done for a request
-    abbrev pub Does : (help version : List ℕ) → Request → Status → Change → Change → Type 0
-    Does help version Help ended input out = untouched × PrintsAt ended out help
-    Does help version Version ended input out = untouched × PrintsAt ended out version
-    Does help version Root ended input out =
-        untouched × RunsOn (memory 0) (codes "root" ∷ []) ended input out
-    Does help version (On device command) ended input out =
-        RunsOnWord device (map string_bytes command.now) ended input out
+  -- what is done for a request
+  abbrev pub Does : (help version : List ℕ) → Request → F → F → Status → Change → Change → Type 0
+  Does help version Help old new ended input out =
+      (new ≡ old) × PrintsAt ended out help × LeavesAlone input
+  Does help version Version old new ended input out =
+      (new ≡ old) × PrintsAt ended out version × LeavesAlone input
+  Does help version Root old new ended input out =
+      (new ≡ old) × RunsOn (memory 0) (codes "root" ∷ []) ended input out
+  Does help version (On device command) old new ended input out =
+      RunsOnWord device old new (map string_bytes command.now) ended input out

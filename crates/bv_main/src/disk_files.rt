@@ -1,20 +1,23 @@
-//! What opens and makes the files that device words name.
+//! What opens, makes and closes the files that device words name.
 ghost use Rattle.std.specs.Prelude.{◌≡◌, ◌<◌, ◌^◌, ℕ, List, Result, IfOk};
 ghost use Rattle.spec_faults.specs.Faults.{CountsFaults};
 ghost use Rattle.bv_device.specs.declared.failed.Failed.{Failed};
 
 use bv_device::{Device, Failed};
 
-/// Opens and makes files of blocks.
+/// Opens, makes and closes files of blocks.
 pub trait DiskFiles {
-    /// An open file.
-    type Disk: Device + Drop;
+    /// An open file. It can't be let go: it has to be closed.
+    type Disk: Device;
 
     /// What came of opening this path, and what is left of `self`.
     ghost open_gives: { Self → List ℕ → Result Self.Disk Failed → Self → Type 0 };
 
     /// What came of making a file of so many blocks at this path.
     ghost make_gives: { Self → ℕ → List ℕ → Result Self.Disk Failed → Self → Type 0 };
+
+    /// What came of closing this file, which holds what it was left with.
+    ghost close_gives: { Self → Self.Disk → Self → Type 0 };
 
     /// How many calls have failed. It never falls.
     ghost fault_count: { Self → ℕ };
@@ -30,4 +33,9 @@ pub trait DiskFiles {
         ensures gives { make_gives self.old blocks path.now result self.new }
         ensures blocks { IfOk result (λ dev. Self.Disk.block_count dev ≡ blocks) }
         ensures faults { CountsFaults (fault_count self.old) (fault_count self.new) result };
+
+    /// Closes a file. What lasts of it, its syncs have said.
+    fn close(&mut self, dev: Self::Disk)
+        ensures gives { close_gives self.old dev self.new }
+        ensures faults { fault_count self.new ≡ fault_count self.old };
 }

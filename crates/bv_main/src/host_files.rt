@@ -11,7 +11,7 @@ use std::os::fd::AsRawFd;
 /// The last of the descriptors that standard input, output and error have.
 const LAST_STREAM: i32 = 2;
 
-/// Opens and makes the machine's files, and knows nothing of what comes of it.
+/// Opens, makes and closes the machine's files, and knows nothing of what comes of it.
 #[derive(Drop)]
 pub struct HostFiles<'r> {
     rt: &'r HostRuntime,
@@ -61,6 +61,8 @@ impl<'r> DiskFiles for HostFiles<'r> {
 
     ghost make_gives = { λ _ _ _ _ _. Unit {0} };
 
+    ghost close_gives = { λ _ _ _. Unit {0} };
+
     ghost fault_count = { λ files. files.faults };
 
     fn open(&mut self, path: &str) -> Result<FileDevice<File>, Failed> {
@@ -82,4 +84,6 @@ impl<'r> DiskFiles for HostFiles<'r> {
             }
         }
     }
+
+    fn close(&mut self, _dev: FileDevice<File>) {}
 }

@@ -1,18 +1,17 @@
 //! What the program answers, its streams and what opens its files handed in.
-ghost use Rattle.std.specs.Prelude.{◌≡◌, ◌⊎◌, map, string_bytes, IfOk};
-ghost use Rattle.spec_faults.specs.Faults.{CountsFaults};
+ghost use Rattle.std.specs.Prelude.{◌≡◌, ◌⊎◌, map, string_bytes};
 ghost use Rattle.bv_format.specs.Formats.{view};
 ghost use Rattle.bv_serve.specs.Runs.{change};
 ghost use Rattle.bv_serve.specs.declared.refusal.Refusal.TheVariants as refusal;
 ghost use Rattle.bv_main.specs.declared.request.Request.{Request};
 ghost use Rattle.bv_main.specs.Devices.{HasFileRoom};
-ghost use Rattle.bv_main.specs.Program.{Asks, AsksNothing, IsRefused, RunsOn, RunsOnWord, Does};
+ghost use Rattle.bv_main.specs.Program.{Asks, AsksNothing, IsRefused, RunsOn, RunsOnFile, RunsOnWord, Does};
 
 use crate::device_word::DeviceWord;
 use crate::disk_files::DiskFiles;
 use crate::request::Request;
 use crate::texts::{HELP, VERSION};
-use bv_device::{Device, MemDevice};
+use bv_device::{Device, Failed, MemDevice};
 use bv_io::{Sink, Source};
 use bv_serve::{Refusal, Status, print, refuse, run};
 use std::alloc::Global;
@@ -28,21 +27,14 @@ pub fn answer<F: DiskFiles, S: Source, K: Sink>(
 ) -> Status
     ensures { (AsksNothing (map string_bytes words.now) × (files.new ≡ files.old)
         × IsRefused refusal.Usage result
-        (change (S.left input.old) (S.left input.new) (S.faults input.old)
-        (S.faults input.new))
+        (change (S.left input.old) (S.left input.new) (S.faults input.old) (S.faults input.new))
         (change (K.given out.old) (K.given out.new) (K.faults out.old) (K.faults out.new)))
         ⊎ ((request : Request) × Asks (map string_bytes words.now) request
         × Does (λ dev. view (F.Disk.told dev) (F.Disk.block_count dev)
         (F.Disk.calls_made dev) (F.Disk.fault_count dev))
-        (files.new ≡ files.old)
-        (λ path made. F.open_gives files.old path made files.new
-        × CountsFaults (F.fault_count files.old) (F.fault_count files.new) made)
-        (λ blocks path made. F.make_gives files.old blocks path made files.new
-        × IfOk made (λ dev. F.Disk.block_count dev ≡ blocks)
-        × CountsFaults (F.fault_count files.old) (F.fault_count files.new) made)
-        HELP.now VERSION.now request result
-        (change (S.left input.old) (S.left input.new) (S.faults input.old)
-        (S.faults input.new))
+        F.fault_count F.open_gives F.make_gives F.close_gives
+        HELP.now VERSION.now request files.old files.new result
+        (change (S.left input.old) (S.left input.new) (S.faults input.old) (S.faults input.new))
         (change (K.given out.old) (K.given out.new) (K.faults out.old) (K.faults out.new))) }
 {
     match Request::parse(words) {
@@ -71,13 +63,8 @@ fn run_on_word<F: DiskFiles, S: Source, K: Sink>(
     requires { HasFileRoom device }
     ensures { RunsOnWord (λ dev. view (F.Disk.told dev) (F.Disk.block_count dev)
         (F.Disk.calls_made dev) (F.Disk.fault_count dev))
-        (files.new ≡ files.old)
-        (λ path made. F.open_gives files.old path made files.new
-        × CountsFaults (F.fault_count files.old) (F.fault_count files.new) made)
-        (λ blocks path made. F.make_gives files.old blocks path made files.new
-        × IfOk made (λ dev. F.Disk.block_count dev ≡ blocks)
-        × CountsFaults (F.fault_count files.old) (F.fault_count files.new) made)
-        device.entry (map string_bytes command.now) result
+        F.fault_count F.open_gives F.make_gives F.close_gives
+        device.entry files.old files.new (map string_bytes command.now) result
         (change (S.left input.old) (S.left input.new) (S.faults input.old) (S.faults input.new))
         (change (K.given out.old) (K.given out.new) (K.faults out.old) (K.faults out.new)) }
 {
@@ -86,18 +73,44 @@ fn run_on_word<F: DiskFiles, S: Source, K: Sink>(
             Ok(dev) => run_on(alloc, command, dev, input, out),
             Err(_) => refuse(out, Refusal::NoMemory),
         },
-        DeviceWord::New { blocks, path } => match files.make(blocks, path) {
-            Ok(dev) => run_on(alloc, command, dev, input, out),
-            Err(_) => refuse(out, Refusal::DeviceFault),
-        },
-        DeviceWord::File { path } => match files.open(path) {
-            Ok(dev) => run_on(alloc, command, dev, input, out),
-            Err(_) => refuse(out, Refusal::DeviceFault),
-        },
+        DeviceWord::New { blocks, path } => {
+            let made = files.make(blocks, path);
+            run_on_file(alloc, command, made, files, input, out)
+        }
+        DeviceWord::File { path } => {
+            let opened = files.open(path);
+            run_on_file(alloc, command, opened, files, input, out)
+        }
     }
 }
 
-/// Makes the top call on a device, which nobody wants afterwards.
+/// Makes the top call on a file, if there is one, and closes it.
+fn run_on_file<F: DiskFiles, S: Source, K: Sink>(
+    alloc: Global,
+    command: &[String],
+    made: Result<F::Disk, Failed>,
+    files: &mut F,
+    input: &mut S,
+    out: &mut K,
+) -> Status
+    ensures { RunsOnFile (λ dev. view (F.Disk.told dev) (F.Disk.block_count dev)
+        (F.Disk.calls_made dev) (F.Disk.fault_count dev))
+        F.fault_count F.open_gives F.make_gives F.close_gives
+        made files.old files.new (map string_bytes command.now) result
+        (change (S.left input.old) (S.left input.new) (S.faults input.old) (S.faults input.new))
+        (change (K.given out.old) (K.given out.new) (K.faults out.old) (K.faults out.new)) }
+{
+    match made {
+        Ok(dev) => {
+            let (status, dev) = run(alloc, command, dev, input, out);
+            files.close(dev);
+            status
+        }
+        Err(_) => refuse(out, Refusal::DeviceFault),
+    }
+}
+
+/// Makes the top call on a device that nobody wants afterwards.
 fn run_on<D: Device + Drop, S: Source, K: Sink>(
     alloc: Global,
     command: &[String],
