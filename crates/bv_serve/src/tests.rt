@@ -255,6 +255,15 @@ fn head(dev: &mut MemDevice) -> Option<[u8; 8]> {
     Some(head)
 }
 
+// What a stop that keeps only what was synced leaves where this call failed: the old head until the
+// first sync was Ok, and then none.
+fn synced_head(kind: CallKind, nth: u64) -> [u8; 8] {
+    match (kind, nth) {
+        (CallKind::Write | CallKind::Sync, 1) => *b"old head",
+        _ => [0; 8],
+    }
+}
+
 #[test]
 fn a_failed_call_of_a_format_has_its_status_and_leaves_a_head(rt: HostRuntime) -> Result<(), Fail> {
     let alloc = rt.alloc();
@@ -273,10 +282,10 @@ fn a_failed_call_of_a_format_has_its_status_and_leaves_a_head(rt: HostRuntime) -
                 let mut input = MemSource::new(Vec::new(alloc), Vec::new(alloc));
                 let mut out = MemSink::new(Vec::new(alloc), alloc);
                 let (status, dev) = run(alloc, &words, dev, &mut input, &mut out);
-                let (want, line) = if nth <= count {
-                    (Status::Device, "device: fault\n")
+                let (want, line, kept) = if nth <= count {
+                    (Status::Device, "device: fault\n", synced_head(kind, nth))
                 } else {
-                    (Status::Ok, "formatted\n")
+                    (Status::Ok, "formatted\n", *b"blobvol\0")
                 };
                 assert_eq!(rt; status, want, "{name} {kind:?} {nth}");
                 assert_eq!(rt; out.bytes(), line.as_bytes(), "{name} {kind:?} {nth}");
@@ -285,13 +294,6 @@ fn a_failed_call_of_a_format_has_its_status_and_leaves_a_head(rt: HostRuntime) -
                     (nth <= count) as u64,
                     "{name} {kind:?} {nth}"
                 );
-                // A stop that keeps only what was synced: the old head before the first sync was Ok,
-                // the new one after the last, and none between.
-                let kept = match (kind, nth) {
-                    (CallKind::Write, 1) | (CallKind::Sync, 1) => *b"old head",
-                    _ if nth <= count => [0; 8],
-                    _ => *b"blobvol\0",
-                };
                 let events = dev.trace_len();
                 let mut image = dev.stop_after(alloc, events, &[])?;
                 assert_eq!(rt; head(&mut image), Some(kept), "{name} {kind:?} {nth}");
