@@ -62,8 +62,8 @@ memory blocks = record {
 abbrev pub RunsOn : View → List (List ℕ) → Status → Change → Change → Type 0
 RunsOn old command ended input out = (new : View) × Serves command ended old new input out
 
--- Below, F is what opens files and D an open file. `seen` is what a contract sees of a file, `count`
--- the failed openings, and the rest says what came of opening, making and closing one.
+-- Below, F is what opens files and D an open file. `seen` is what a contract sees of a file,
+-- `count` the failed openings, and the rest says what came of opening, making and closing one.
 module _ {F D : Type 0} (seen : D → View) (count : F → ℕ)
     (opens : F → List ℕ → Result D Failed → F → Type 0)
     (makes : F → ℕ → List ℕ → Result D Failed → F → Type 0)
@@ -78,7 +78,8 @@ module _ {F D : Type 0} (seen : D → View) (count : F → ℕ)
       makes old blocks path made new × CountsFaults (count old) (count new) made
       × IfOk made (λ dev. (seen dev).block_count ≡ blocks)
 
-  -- the top call was made on the open file, and what was closed is the file as that call left it
+  -- the top call was made on the open file, and what was closed is the file as that call left it:
+  -- the very one that was opened, where the command makes no volume or is refused before it does
   pub record RunsOnOpen (dev : D) (old new : F) (command : List (List ℕ)) (ended : Status)
       (input out : Change) : Type 0 where
     pub left : D
