@@ -24,7 +24,7 @@ impl Model for Tree {
 
     ghost view = { λ tree. record {
       root = tree.root;
-      levels = map (λ blocks. blocks.items) tree.levels.items
+      levels = map (λ blocks. blocks.items) tree.levels.items;
     } };
 }
 

@@ -9,18 +9,13 @@ use crate::{
 use std::alloc::{AllocError, Global};
 use std::test::Fail;
 
-// The first eight bytes of a digest, as its hexadecimal text has them.
-fn head(digest: &Digest) -> u64 {
-    u64::from_be_bytes([
-        digest.0[0],
-        digest.0[1],
-        digest.0[2],
-        digest.0[3],
-        digest.0[4],
-        digest.0[5],
-        digest.0[6],
-        digest.0[7],
-    ])
+// A digest as two numbers, of sixteen bytes each, whose hexadecimal digits are those of its text.
+fn halves(digest: &Digest) -> [u128; 2] {
+    let mut front = [0; 16];
+    front.copy_from_slice(&digest.0[..16]);
+    let mut back = [0; 16];
+    back.copy_from_slice(&digest.0[16..]);
+    [u128::from_be_bytes(front), u128::from_be_bytes(back)]
 }
 
 // The tree of bytes that are pushed in pieces of `step` bytes.
@@ -37,54 +32,94 @@ fn tree_by(alloc: Global, bytes: &[u8], step: usize) -> Result<Tree, AllocError>
     builder.finish(alloc)
 }
 
-// Whether the root of so many bytes begins so, by `root` and by builders fed in pieces.
-fn has_root(alloc: Global, byte: u8, size: usize, expected: u64) -> Result<bool, AllocError>
-    requires { size < 2097154 }
-{
-    let bytes = vec![in alloc; byte; size]?;
-    let by_bytes = tree_by(alloc, &bytes, 1)?;
-    let by_odd_pieces = tree_by(alloc, &bytes, 4095)?;
-    let by_blocks = tree_by(alloc, &bytes, 8192)?;
-    Ok(
-        head(&root(&bytes)) == expected
-            && head(&by_bytes.root) == expected
-            && head(&by_odd_pieces.root) == expected
-            && head(&by_blocks.root) == expected,
-    )
-}
+// The roots of so many bytes of one value: by python's hashlib, from the definition. 8,192 bytes of
+// 255 are a vector of Fuchsia's own.
+const ROOTS: [(&str, u8, u32, [u128; 2]); 8] = [
+    (
+        "no bytes",
+        0,
+        0,
+        [
+            0x15ec7bf0b50732b49f8228e07d243653,
+            0x38f9e3ab994b00af08e5a3bffe55fd8b,
+        ],
+    ),
+    (
+        "one block",
+        255,
+        8192,
+        [
+            0x68d131bc271f9c192d4f6dcd8fe61bef,
+            0x90004856da19d0f2f514a7f4098b0737,
+        ],
+    ),
+    (
+        "two blocks",
+        0x41,
+        8193,
+        [
+            0xb1699626e878b7108169d8056aa2b2d8,
+            0x9605a90cec3cc7fb3ac2013fe51bd996,
+        ],
+    ),
+    (
+        "three blocks, the last of one byte",
+        0x41,
+        16_385,
+        [
+            0x48a483cc989cfb8b2cb90949b6b4f1b3,
+            0x43ae8fb342b3ded4fec79d938d97058e,
+        ],
+    ),
+    (
+        "a window that lacks one byte",
+        0x41,
+        65_535,
+        [
+            0xbdb1e6c4dd24a967e88723791c9a0a04,
+            0x5fffc1231a09d2565a5c0f0674dc1bb2,
+        ],
+    ),
+    (
+        "one window",
+        0x41,
+        65_536,
+        [
+            0xbda3bac47c49b17008a390fba7ed5d0a,
+            0xf4c82216a4dfa0c93a4fc90373a6c793,
+        ],
+    ),
+    (
+        "two windows",
+        0x41,
+        65_537,
+        [
+            0xcad84921a1e67f0cc7c081d85b7f699b,
+            0xbbce167b53d3d6c564b54c508a5b4982,
+        ],
+    ),
+    (
+        "two levels",
+        0x41,
+        2_097_153,
+        [
+            0x0c61de8c1e0d935ddd05836f6f792b7c,
+            0x21e9da54c5ee997982f0c8810f025362,
+        ],
+    ),
+];
 
-// By python's hashlib, from the definition; 8,192 bytes of 255 are a vector of Fuchsia's own.
 #[test]
 fn roots_are_those_known_outside(rt: HostRuntime) -> Result<(), Fail> {
-    assert!(rt; has_root(rt.alloc(), 0, 0, 0x15ec7bf0b50732b4)?, "no bytes");
-    assert!(rt;
-        has_root(rt.alloc(), 255, 8192, 0x68d131bc271f9c19)?,
-        "one block"
-    );
-    assert!(rt;
-        has_root(rt.alloc(), 0x41, 8193, 0xb1699626e878b710)?,
-        "two blocks"
-    );
-    assert!(rt;
-        has_root(rt.alloc(), 0x41, 16385, 0x48a483cc989cfb8b)?,
-        "three blocks, the last of one byte"
-    );
-    assert!(rt;
-        has_root(rt.alloc(), 0x41, 65535, 0xbdb1e6c4dd24a967)?,
-        "a window that lacks one byte"
-    );
-    assert!(rt;
-        has_root(rt.alloc(), 0x41, 65536, 0xbda3bac47c49b170)?,
-        "one window"
-    );
-    assert!(rt;
-        has_root(rt.alloc(), 0x41, 65537, 0xcad84921a1e67f0c)?,
-        "two windows"
-    );
-    assert!(rt;
-        has_root(rt.alloc(), 0x41, 2097153, 0x0c61de8c1e0d935d)?,
-        "two levels"
-    );
+    let alloc = rt.alloc();
+    for (name, byte, size, expected) in ROOTS {
+        let bytes = vec![in alloc; byte; size as usize]?;
+        assert_eq!(rt; halves(&root(&bytes)), expected, "{name}");
+        for step in [1, 4095, 8192] {
+            let tree = tree_by(alloc, &bytes, step)?;
+            assert_eq!(rt; halves(&tree.root), expected, "{name} in pieces of {step}");
+        }
+    }
     Ok(())
 }
 
@@ -123,11 +158,25 @@ fn a_tree_has_the_blocks_of_its_levels(rt: HostRuntime) -> Result<(), Fail> {
 #[test]
 fn block_digests_are_those_known_outside(rt: HostRuntime) {
     let digests = block_digest(1, 8192, &[7; 8192]);
-    assert_eq!(rt; head(&digests), 0x0434_9125_3559_d415, "a block of digests");
+    assert_eq!(rt;
+        halves(&digests),
+        [
+            0x043491253559d4154f3b089cf078e299,
+            0x5beb6a1ebcdcaea5c0c279a18c343edb,
+        ],
+        "a block of digests"
+    );
     let data = block_digest(0, 16384, b"hi");
-    assert_eq!(rt; head(&data), 0xf33b_4a01_9752_b08f, "a short block of data");
+    assert_eq!(rt;
+        halves(&data),
+        [
+            0xf33b4a019752b08f5d78ff34d3f549aa,
+            0x8bda5db503c7d16b491efc6b981e7072,
+        ],
+        "a short block of data"
+    );
     let none = block_digest(0, 8192, &[]);
-    assert_eq!(rt; head(&none), 0x15ec_7bf0_b507_32b4, "no data at an offset");
+    assert_eq!(rt; halves(&none), ROOTS[0].3, "no data at an offset");
 }
 
 // Whether a blob of this size has so many blocks in version 1, in version 2, and so many levels,
