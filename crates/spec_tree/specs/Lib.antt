@@ -1,2 +1,3 @@
+-- Blobs, their Merkle trees, and the order of roots.
 pub mod Order
 pub mod Tree

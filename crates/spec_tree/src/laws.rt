@@ -49,7 +49,7 @@ pub fn a_compact_tree_takes_no_more()
     ensures { (size : ℕ) → need_of 2 size ≤ need_of 1 size }
 {}
 
-/// A tree takes fewer blocks than its data.
-pub fn a_tree_takes_less_than_its_data()
+/// A tree takes no more blocks than its data.
+pub fn a_tree_takes_no_more_than_its_data()
     ensures { (version size : ℕ) → need_of version size ≤ 2 * data_blocks size }
 {}
