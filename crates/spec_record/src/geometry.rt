@@ -61,7 +61,6 @@ impl Geometry {
 
     /// Where the info block is.
     pub fn info_at(&self) -> u64
-        requires { IsGeometry self.now }
         ensures { result ≡ info_at self.now }
     {
         self.meta()
