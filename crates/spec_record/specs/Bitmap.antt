@@ -1,5 +1,5 @@
--- The bitmap: one bit for each data block, 1 exactly where the block is block 0 or in an extent, and
--- 0 from the number of data blocks on. This project's profile.
+-- The bitmap: one bit for each data block, 1 exactly where the block is block 0 or in an extent,
+-- and 0 from the number of data blocks on. This project's profile.
 --
 -- | bit of the volume | where                                                          |
 -- |-------------------|----------------------------------------------------------------|

@@ -1,5 +1,5 @@
 -- CRC-32, bit by bit: the check of ISO/IEC 3309 and ITU-T V.42 in its reflected form, with the
--- polynomial 0xEDB88320. The register begins with 32 ones, and its 32 bits are turned at the end.
+-- polynomial 0xEDB88320. The register begins with 32 ones, and its 32 bits are inverted at the end.
 use Rattle.std.specs.Prelude.{◌/◌, ◌%◌, ℕ, zero, suc, ◌==◌, if◌then◌else◌, bit_xor, List, [], ◌∷◌, ◌++◌}
 
 -- the lowest bits of a number, `count` of them, the lowest first

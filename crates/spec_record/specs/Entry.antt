@@ -1,5 +1,6 @@
 -- A journal entry: a header, its payloads and a commit, each a block of 8192 bytes, numbers
--- little-endian. A payload is the new bytes of one metadata block, its target. This project's profile.
+-- little-endian. A payload is the new bytes of one metadata block, its target. This project's
+-- profile.
 --
 -- | offset | width | prefix of header and commit                                          |
 -- |-------:|------:|----------------------------------------------------------------------|
@@ -20,9 +21,9 @@
 -- |     32 |     4 | checksum: CRC-32 of the header and the payloads as stored            |
 -- |     36 |  8156 | 0                                                                    |
 --
--- So that no payload is taken for a header, one that begins with the magic is stored with zeros there
--- and the flag 1. A stored payload with the flag 1 begins with eight zeros, and one with the flag 0
--- doesn't begin with the magic.
+-- So that no payload is taken for a header, one that begins with the magic is stored with zeros
+-- there and the flag 1. A stored payload with the flag 1 begins with eight zeros, and one with the
+-- flag 0 doesn't begin with the magic.
 --
 -- A reader refuses by the first of these that fails: magic, number, kind, count, the places of the
 -- targets in order, the header's reserved fields, commit, checksum. In the fault of a checksum the

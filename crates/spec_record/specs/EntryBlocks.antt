@@ -1,4 +1,5 @@
--- The blocks of a journal entry, by the tables of `Entry`, and the entry at a slot of the ring.
+-- The blocks of a journal entry, by the tables of `Entry`, and the entry at a slot of the ring. This
+-- project's profile.
 use Rattle.std.specs.Prelude.{◌<◌, ◌+◌, ◌-◌, ◌^◌, ◌%◌, ℕ, if◌then◌else◌, List, [], ◌∷◌, ◌++◌, length, take, drop, map, replicate, All, Option}
 use Rattle.std.specs.List.{concat}
 use Rattle.std.specs.List.Sorted.{IsStrictlyIncreasing}

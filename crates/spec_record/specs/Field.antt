@@ -1,5 +1,5 @@
--- Fields: numbers of a few bytes each, the lowest byte first, that stand one after another. A record
--- is a table of fields, given by their widths. This project's profile.
+-- Fields: numbers of a few bytes each, the lowest byte first, that stand one after another. A
+-- record is a table of fields, given by their widths. This project's profile.
 use Rattle.std.specs.Prelude.{◌≡◌, ◌<◌, ◌+◌, ◌*◌, ◌/◌, ◌%◌, ◌^◌, ℕ, zero, suc, List, [], ◌∷◌, ◌++◌, length, take, drop, slice_index}
 
 -- each byte is below 256

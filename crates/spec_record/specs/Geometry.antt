@@ -85,10 +85,6 @@ is_node_count version nodes = is_between 128 nodes (most_nodes version) && (node
 abbrev pub is_journal_count : Geometry → Bool
 is_journal_count g = is_between (meta_blocks g + 3) g.journal 65536
 
--- the superblock, bitmap and node map of a device or an image, block by block
-abbrev pub metadata : Geometry → List (List ℕ) → List (List ℕ)
-metadata g image = take (meta_blocks g) image
-
 -- the bitmap in the metadata
 abbrev pub bitmap_in : Geometry → List (List ℕ) → List (List ℕ)
 bitmap_in g meta = take (bitmap_blocks g) (drop 1 meta)
@@ -100,7 +96,3 @@ node_map_in g meta = take (node_blocks g) (drop (1 + bitmap_blocks g) meta)
 -- the ring of an image, slot by slot
 abbrev pub ring_in : Geometry → List (List ℕ) → List (List ℕ)
 ring_in g image = take (ring_slots g) (drop (slot_at g 0) image)
-
--- the data blocks of an image
-abbrev pub data_in : Geometry → List (List ℕ) → List (List ℕ)
-data_in g image = take g.blocks (drop (block_at g 0) image)

@@ -1,6 +1,6 @@
--- The laws of the records. A block or node of a record is read as a value exactly where the value is
--- within its ranges and the bytes are its spelling; so a value has one spelling, and no other bytes
--- are read as it.
+-- The laws of the records. A block or node of a record is read as a value exactly where the value
+-- is within its ranges and the bytes are its spelling; so a value has one spelling, and no other
+-- bytes are read as it.
 use Rattle.std.specs.Prelude.{◌≡◌, ◌≤◌, ◌↔◌, ◌^◌, ℕ, List, length, take, All, Some, codes}
 use Rattle.spec_record.specs.declared.superblock.Super.{Super}
 use Rattle.spec_record.specs.declared.extent.Extent.{Extent}
@@ -72,7 +72,8 @@ NodeIsRead =
 
 -- a node takes a place of the node map
 abbrev pub NodeIsPlace : Type 0
-NodeIsPlace = (volume : ℕ) (node : Node) → IsNode volume node → volume ≤ 2 → IsPlace (node_bytes node)
+NodeIsPlace =
+    (volume : ℕ) (node : Node) → IsNode volume node → volume ≤ 2 → IsPlace (node_bytes node)
 
 -- two nodes with one spelling are equal
 abbrev pub NodeIsOne : Type 0

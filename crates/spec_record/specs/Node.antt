@@ -18,8 +18,8 @@
 --
 -- A free node is 64 zero bytes. The ranges of extents and counts are no rows of a node alone: a
 -- node reads with any extents in its used places, and a container with any count. In one whose
--- count is over 6 no place is unused. A reader refuses by the flags, then the version, then the first
--- byte that should be zero.
+-- count is over 6 no place is unused. A reader refuses by the flags, then the version, then the
+-- first byte that should be zero.
 use Rattle.std.specs.Prelude.{◌+◌, ◌-◌, ◌*◌, ◌/◌, ◌%◌, ℕ, Bool, ◌==◌, nat_le, if◌then◌else◌, List, [], ◌∷◌, take, drop, map, slice_index_or, Option, Result, Err}
 use Rattle.std.specs.Result.{result_ok}
 use Rattle.spec_record.specs.declared.inode.Inode.{Inode}

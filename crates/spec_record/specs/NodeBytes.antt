@@ -1,4 +1,4 @@
--- The 64 bytes of a node, by the tables of `Node`.
+-- The 64 bytes of a node, by the tables of `Node`. This project's profile.
 use Rattle.std.specs.Prelude.{◌≡◌, ◌<◌, ◌^◌, ℕ, List, [], ◌∷◌, length, map, drop, All}
 use Rattle.spec_record.specs.declared.extent.Extent.{Extent}
 use Rattle.spec_record.specs.declared.inode.Inode.{Inode}

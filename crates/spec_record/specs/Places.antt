@@ -1,4 +1,5 @@
--- The places that the header of a journal entry has for targets and flags, by the tables of `Entry`.
+-- The places that the header of a journal entry has for targets and flags, by the tables of
+-- `Entry`. This project's profile.
 use Rattle.std.specs.Prelude.{◌+◌, ◌-◌, ◌*◌, ℕ, zero, suc, Bool, not, ◌&&◌, ◌||◌, ◌==◌, nat_lt, if◌then◌else◌, List, [], slice_index_or, Option, Some, None}
 use Rattle.spec_record.specs.Field.{field}
 

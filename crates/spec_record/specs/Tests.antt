@@ -1,4 +1,5 @@
--- The tests of a record: each comes with the fault that tells of it, and the first that fails counts.
+-- The tests of a record: each comes with the fault that tells of it, and the first that fails
+-- counts.
 use Rattle.std.specs.Prelude.{◌≤◌, ◌+◌, ℕ, Bool, ◌&&◌, ◌==◌, nat_le, if◌then◌else◌, List, [], ◌∷◌, drop, Result, Ok, Err}
 
 -- the value where every test holds, else the fault of the first that fails
