@@ -19,6 +19,6 @@ pub enum NodeFault {
     BadLink { node: u32 },
     /// An extent of this node is out of its ranges; the index counts from 0 within the node.
     Extent { node: u32, index: u32 },
-    /// A container that stands in no chain.
+    /// A container that reads and stands in no chain that was read without a fault.
     Orphan,
 }
