@@ -39,7 +39,7 @@ pub use laws::{
 pub use node::Node;
 pub use node_fault::NodeFault;
 pub use plain_crc::{after_bytes, crc_of};
-pub use plain_entry::{first_entry_fault, restored_of, stored_of};
+pub use plain_entry::{first_entry_fault, flag_at, has_magic, restored_of, stored_of, target_of};
 pub use plain_field::{field_of, first_set_of, is_zero};
 pub use plain_info::info_from;
 pub use plain_node::node_from;

@@ -1,9 +1,10 @@
 //! Journal entries by their definition, one test after another.
 
-ghost use Rattle.std.specs.Prelude.{◌≡◌, ◌<◌, ◌≤◌, ◌+◌, length, take};
+ghost use Rattle.std.specs.Prelude.{◌≡◌, ◌==◌, ◌<◌, ◌≤◌, ◌+◌, if◌then◌else◌, None, Some, length, take};
 ghost use Rattle.std.specs.List.{concat};
 ghost use Rattle.std.specs.Result.{result_err};
 ghost use Rattle.spec_record.specs.Field.{field};
+ghost use Rattle.spec_record.specs.declared.entry_fault.EntryFault.TheVariants as faults;
 ghost use Rattle.spec_record.specs.Crc.{crc32, crc_register, message_bits};
 ghost use Rattle.spec_record.specs.Places.{
   begins_with_magic,
@@ -32,32 +33,37 @@ const MAGIC: u64 = 0x626c_6f62_6e74_7279;
 /// The magic as it is stored.
 const MAGIC_BYTES: [u8; 8] = [0x79, 0x72, 0x74, 0x6e, 0x62, 0x6f, 0x6c, 0x62];
 
-fn has_magic(block: &Block) -> bool
+/// Whether a block begins with the magic, as headers and commits do.
+pub fn has_magic(block: &Block) -> bool
     ensures { result ≡ begins_with_magic block.now }
 {
     field_of(block, 0, 8) == MAGIC
 }
 
-fn target_of(header: &Block, place: usize) -> u64
+/// The target at a place of a header, counted from 0.
+pub fn target_of(header: &Block, place: usize) -> u64
     requires { place < 679 }
     ensures { result ≡ target_in header.now place }
 {
     field_of(header, 40 + 8 * place, 8)
 }
 
-fn flag_at(header: &Block, place: usize) -> u64
+/// The flag at a place of a header, counted from 0.
+pub fn flag_at(header: &Block, place: usize) -> u64
     requires { place < 679 }
     ensures { result ≡ flag_in header.now place }
 {
     field_of(header, 5472 + 4 * place, 4)
 }
 
+/// Whether a flag fits the stored payload that it stands for.
 fn fits_flag(flag: u64, block: &Block) -> bool
     ensures { result ≡ is_escape flag block.now }
 {
     (flag == 1 && is_zero(block, 0, 8)) || (flag == 0 && !has_magic(block))
 }
 
+/// Whether a place of the header is right for this payload.
 fn is_used(header: &Block, meta: u64, place: usize, payload: &Block) -> bool
     requires { place < 679 }
     ensures { result ≡ is_used_place header.now meta place payload.now }
@@ -67,6 +73,7 @@ fn is_used(header: &Block, meta: u64, place: usize, payload: &Block) -> bool
     rises && target < meta && fits_flag(flag_at(header, place), payload)
 }
 
+/// Whether a place of the header holds nothing.
 fn is_unused(header: &Block, place: usize) -> bool
     requires { place < 679 }
     ensures { result ≡ is_unused_place header.now place }
@@ -153,6 +160,19 @@ fn checksum_of(blocks: &[Block]) -> u32
     register ^ 0xFFFF_FFFF
 }
 
+/// The fault of a commit whose checksum isn't that of the blocks before it, or none.
+fn checksum_fault(blocks: &[Block], commit: &Block) -> Option<EntryFault>
+    ensures { let stored = field commit.now 32 4 in let sum = crc32 (concat blocks.now) in
+        result ≡ (if stored == sum then None else Some (faults.Checksum stored sum)) }
+{
+    let wanted = field_of(commit, 32, 4) as u32;
+    let found = checksum_of(blocks);
+    if wanted == found {
+        return None;
+    }
+    Some(EntryFault::Checksum { wanted, found })
+}
+
 /// Why blocks don't begin with the entry of a number, in a volume of so many metadata blocks; none
 /// where they do.
 #[tactic(auto, unfolding(crate::specs::Entry::entry_or_fault))]
@@ -191,10 +211,5 @@ pub fn first_entry_fault(blocks: &[Block], number: u64, meta: u64) -> Option<Ent
     if !is_commit_of(commit, number) {
         return Some(EntryFault::Commit);
     }
-    let wanted = field_of(commit, 32, 4) as u32;
-    let found = checksum_of(&blocks[..last]);
-    if wanted != found {
-        return Some(EntryFault::Checksum { wanted, found });
-    }
-    None
+    checksum_fault(&blocks[..last], commit)
 }

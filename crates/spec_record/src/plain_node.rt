@@ -82,7 +82,8 @@ fn inode_from(bytes: &Place) -> Result<Node, NodeFault>
 
 /// What 64 bytes with the flags of a container stand for.
 fn container_from(bytes: &Place) -> Result<Node, NodeFault>
-    ensures { result ≡ value_or_fault (container_tests bytes.now) (nodes.Container (container_in bytes.now)) }
+    ensures { result
+        ≡ value_or_fault (container_tests bytes.now) (nodes.Container (container_in bytes.now)) }
 {
     let container = container_fields(bytes);
     if !is_zero(bytes, 14, 2) {
