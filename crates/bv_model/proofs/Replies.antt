@@ -1,20 +1,21 @@
 -- Which events have a reply, and which have one.
-use Rattle.std.proofs.Common.{◌≡◌, ℕ, Bool, true, false, cond, is_some, ◌&&◌, not, ◌++◌, nat_lt, Option, Some, None, List, refl, inl, inr, sym, ◌∙◌}
+use Rattle.std.proofs.Common.{◌≡◌, ℕ, Bool, true, false, cond, is_some, ◌&&◌, not, ◌++◌, nat_lt, Option, Some, None, List, [], ◌∷◌, refl, ap, inl, inr, sym, ◌∙◌}
 use Rattle.spec_tree.specs.Tree.{need_of}
 use Rattle.spec_tree.specs.declared.Digest.{Digest}
 use Rattle.bv_model.specs.Change.{change}
 use Rattle.bv_model.specs.Choice.{choice, unless_stopped, unless_empty, if_added, begin_choice, open_choice, sync_choice, is_empty, place_of, at_number_end}
-use Rattle.bv_model.specs.Laws.{MayCome, OneReply, SomeReply, is_admit, is_fault}
+use Rattle.bv_model.specs.Laws.{MayCome, OneReply, SomeReply, IsOpen}
 use Rattle.bv_model.specs.Room.{room_in}
 use Rattle.bv_model.specs.State.{State, find, held, present, is_unlinked}
 use Rattle.bv_model.specs.Step.{Chosen}
+use Rattle.bv_model.specs.Synced.{fault_of}
 use Rattle.bv_model.specs.declared.act.Act.{Act}
 use Rattle.bv_model.specs.declared.act.Act.TheVariants.{Begin, Admit, Put, Settle, Retire, Open, Fetch, Read, Scan, Close, Unlink, Sync, List as ListAll, Unmount}
 use Rattle.spec_tree.specs.declared.blob.Blob.{Blob}
 use Rattle.bv_model.specs.declared.choice.Choice.{Choice}
 use Rattle.bv_model.specs.declared.choice.Choice.TheVariants.{Only, Writes, Reads, Nodes, Never}
 use Rattle.bv_model.specs.declared.reply.Reply.{Reply}
-use Rattle.bv_model.specs.declared.reply.Reply.TheVariants.{Admitted, Retired, Synced, Unmounted}
+use Rattle.bv_model.specs.declared.reply.Reply.TheVariants.{Admitted, Written, Published, Retired, Fetched, Synced, Unmounted, DeviceFault, ReadFault}
 use Rattle.bv_model.specs.declared.setting.Setting.{Setting}
 use Rattle.bv_model.specs.declared.who.Who.{Who}
 
@@ -91,48 +92,64 @@ pub some_reply_fits : SomeReply
 some_reply_fits g s w a calls m =
     let q : Reply = some_reply (choice g s w a) in (q, change g s w a q, (is_chosen (choice g s w a) (possible g s w a m), refl))
 
--- a choice with one reply but for faults
+-- a choice with one reply, given whether the device failed and with which number
 abbrev IsSingle : Choice → Type 0
-IsSingle c = (q r : Reply) → Chosen c q → Chosen c r → is_fault q ≡ false → is_fault r ≡ false → q ≡ r
+IsSingle c = (q r : Reply) → Chosen c q → Chosen c r → fault_of q ≡ fault_of r → q ≡ r
 
 only_single : (a : Reply) → IsSingle (Only a)
-only_single a q r p t f h = p ∙ sym t
+only_single a q r p t f = p ∙ sym t
 
-writes_single : (a : Reply) → IsSingle (Writes a)
-writes_single a q r (inl p) (inl t) f h = p ∙ sym t
-writes_single a q r (inl p) (inr t) f h = let e = rw t.1 at h in cc
-writes_single a q r (inr p) t f h = let e = rw p.1 at f in cc
+-- a reply that tells no fault is none that tells one
+apart : {P : Type 0} (a q r : Reply) (f : ℕ) → fault_of a ≡ [] → q ≡ a → fault_of r ≡ f ∷ [] → fault_of q ≡ fault_of r → P
+apart a q r f none p t same = let e = sym none ∙ ap fault_of (sym p) ∙ same ∙ t in cc
 
-reads_single : (a : Reply) → IsSingle (Reads a)
-reads_single a q r (inl p) (inl t) f h = p ∙ sym t
-reads_single a q r (inl p) (inr t) f h = let e = rw t.1 at h in cc
-reads_single a q r (inr p) t f h = let e = rw p.1 at f in cc
+one_number : (f n : ℕ) → f ∷ [] ≡ n ∷ [] → f ≡ n
+one_number f n e = cc
+
+writes_single : (a : Reply) → fault_of a ≡ [] → IsSingle (Writes a)
+writes_single a none q r (inl p) (inl t) same = p ∙ sym t
+writes_single a none q r (inl p) (inr t) same = apart a q r t.0 none p (ap fault_of t.1) same
+writes_single a none q r (inr p) (inl t) same = apart a r q p.0 none t (ap fault_of p.1) (sym same)
+writes_single a none q r (inr p) (inr t) same =
+    p.1 ∙ ap DeviceFault (one_number p.0 t.0 (ap fault_of (sym p.1) ∙ same ∙ ap fault_of t.1)) ∙ sym t.1
+
+reads_single : (a : Reply) → fault_of a ≡ [] → IsSingle (Reads a)
+reads_single a none q r (inl p) (inl t) same = p ∙ sym t
+reads_single a none q r (inl p) (inr t) same = apart a q r t.0 none p (ap fault_of t.1) same
+reads_single a none q r (inr p) (inl t) same = apart a r q p.0 none t (ap fault_of p.1) (sym same)
+reads_single a none q r (inr p) (inr t) same =
+    p.1 ∙ ap ReadFault (one_number p.0 t.0 (ap fault_of (sym p.1) ∙ same ∙ ap fault_of t.1)) ∙ sym t.1
 
 never_single : IsSingle Never
-never_single q r p t f h = absurd p
+never_single q r p t f = absurd p
 
 added_single : (o : Option ℕ) (f : ℕ → Choice) → ((n : ℕ) → IsSingle (f n)) → IsSingle (if_added o f)
 added_single None f p = never_single
 added_single (Some n) f p = p n
 
-sync_single : (s : State) (queue : List Digest) (done : Reply) → IsSingle (sync_choice s queue done)
-sync_single s queue done = cond_has IsSingle (not (is_empty queue) && at_number_end s) _ _ (only_single _) (writes_single _)
+-- a stopped core has one reply to an admit
+admit_single : (o : Option ℕ) (c : Choice) → ¬ (o ≡ None) → IsSingle (unless_stopped o c)
+admit_single (Some f) c stops = only_single _
+admit_single None c stops = absurd (stops refl)
 
-single : (g : Setting) (s : State) (w : Who) (a : Act) → is_admit a ≡ false → IsSingle (choice g s w a)
+sync_single : (s : State) (queue : List Digest) (done : Reply) → fault_of done ≡ [] → IsSingle (sync_choice s queue done)
+sync_single s queue done none = cond_has IsSingle (not (is_empty queue) && at_number_end s) _ _ (only_single _) (writes_single done none)
+
+single : (g : Setting) (s : State) (w : Who) (a : Act) → ¬ IsOpen s a → IsSingle (choice g s w a)
 single g s w (Begin r n) m = stopped_has IsSingle s.stopped _ only_single (begin_has IsSingle g s r n only_single)
-single g s w (Admit r) m = cc
-single g s w (Put i) m = stopped_has IsSingle s.stopped _ only_single (writes_single _)
-single g s w (Settle r) m = added_single (find s.adds r) _ (λ n. stopped_has IsSingle s.stopped _ only_single (cond_has IsSingle (at_number_end s) _ _ (only_single _) (writes_single _)))
+single g s w (Admit r) m = added_single (find s.adds r) _ (λ n. admit_single s.stopped _ m)
+single g s w (Put i) m = stopped_has IsSingle s.stopped _ only_single (writes_single Written refl)
+single g s w (Settle r) m = added_single (find s.adds r) _ (λ n. stopped_has IsSingle s.stopped _ only_single (cond_has IsSingle (at_number_end s) _ _ (only_single _) (writes_single Published refl)))
 single g s w (Retire r) m = only_single _
 single g s w (Open slot r) m = open_has IsSingle (present s r) (held s.slots (place_of w slot)) only_single
-single g s w (Fetch slot i) m = empty_has IsSingle (held s.slots (place_of w slot)) _ only_single (reads_single _)
+single g s w (Fetch slot i) m = empty_has IsSingle (held s.slots (place_of w slot)) _ only_single (reads_single Fetched refl)
 single g s w (Read slot off len) m = empty_has IsSingle (held s.slots (place_of w slot)) _ only_single (only_single _)
 single g s w (Scan slot) m = empty_has IsSingle (held s.slots (place_of w slot)) _ only_single (only_single _)
 single g s w (Close slot) m = empty_has IsSingle (held s.slots (place_of w slot)) _ only_single (only_single _)
 single g s w (Unlink r) m = stopped_has IsSingle s.stopped _ only_single (cond_has IsSingle (is_some (present s r)) _ _ (only_single _) (only_single _))
-single g s w Sync m = stopped_has IsSingle s.stopped _ only_single (sync_single s s.queue Synced)
+single g s w Sync m = stopped_has IsSingle s.stopped _ only_single (sync_single s s.queue Synced refl)
 single g s w ListAll m = only_single _
-single g s w Unmount m = cond_has IsSingle (is_empty s.adds) _ _ (stopped_has IsSingle s.stopped _ only_single (sync_single s (s.queue ++ s.leaving) Unmounted)) never_single
+single g s w Unmount m = cond_has IsSingle (is_empty s.adds) _ _ (stopped_has IsSingle s.stopped _ only_single (sync_single s (s.queue ++ s.leaving) Unmounted refl)) never_single
 
 pub one_reply : OneReply
-one_reply g s w a q r m = single g s w a m q r
+one_reply g s w a q r p t same m = single g s w a m q r p t same

@@ -1,5 +1,5 @@
 -- What the rules mean together: each statement is the contract of a function of `laws`.
-use Rattle.std.specs.Prelude.{◌≡◌, ℕ, Bool, true, false, ◌-◌, ◌<◌, ◌≤◌, ◌⊎◌, cond, List, [], ◌∷◌, ◌++◌, length, Some, None, is_some}
+use Rattle.std.specs.Prelude.{◌≡◌, ℕ, true, false, ◌-◌, ◌<◌, ◌≤◌, ◌⊎◌, cond, List, [], ◌∷◌, ◌++◌, length, Some, None, is_some}
 use Rattle.std.specs.List.{count_by}
 use Rattle.spec_tree.specs.declared.Digest.{Digest}
 use Rattle.spec_tree.specs.Order.{same_digest}
@@ -8,13 +8,12 @@ use Rattle.bv_model.specs.History.{History, opening_map, last_state, room, Legal
 use Rattle.bv_model.specs.Log.{changed, queued}
 use Rattle.bv_model.specs.State.{State, find, held, among, is_held}
 use Rattle.bv_model.specs.Step.{Chosen, Fits, Step, after}
-use Rattle.bv_model.specs.Synced.{log_lengths, synced_by, logged_by}
+use Rattle.bv_model.specs.Synced.{log_lengths, synced_by, logged_by, fault_of}
 use Rattle.bv_model.specs.declared.act.Act.{Act}
 use Rattle.bv_model.specs.declared.act.Act.TheVariants.{Admit, Settle, Close, Unmount}
 use Rattle.bv_model.specs.declared.event.CoreEvent.{CoreEvent}
 use Rattle.bv_model.specs.declared.place.Place.{Place}
 use Rattle.bv_model.specs.declared.reply.Reply.{Reply}
-use Rattle.bv_model.specs.declared.reply.Reply.TheVariants.{DeviceFault, ReadFault}
 use Rattle.bv_model.specs.declared.setting.Setting.{Setting}
 use Rattle.bv_model.specs.declared.who.Who.{Who}
 
@@ -24,22 +23,18 @@ use Rattle.bv_model.specs.declared.who.Who.{Who}
 abbrev pub OneNewState : Type 0
 OneNewState = (g : Setting) (old new other : State) (e : CoreEvent) → Step g old e new → Step g old e other → new ≡ other
 
--- the event is an admit
-abbrev pub is_admit : Act → Bool
-is_admit (Admit r) = true
-is_admit _ = false
+-- the state leaves the reply open: to an admit, while no write or sync has failed
+abbrev pub IsOpen : State → Act → Type 0
+IsOpen s (Admit r) = s.stopped ≡ None
+IsOpen s _ = ⊥
 
--- the reply tells that the device failed
-abbrev pub is_fault : Reply → Bool
-is_fault (DeviceFault f) = true
-is_fault (ReadFault f) = true
-is_fault _ = false
-
--- but for admit, and for a device that fails, there is one reply
+-- given whether the device failed, and with which number, there is one reply, but where the state
+-- leaves it open
 abbrev pub OneReply : Type 0
 OneReply =
-    (g : Setting) (s : State) (who : Who) (act : Act) (q r : Reply) → is_admit act ≡ false → Chosen (choice g s who act) q
-    → Chosen (choice g s who act) r → is_fault q ≡ false → is_fault r ≡ false → q ≡ r
+    (g : Setting) (s : State) (who : Who) (act : Act) (q r : Reply)
+    → Chosen (choice g s who act) q → Chosen (choice g s who act) r
+    → fault_of q ≡ fault_of r → ¬ IsOpen s act → q ≡ r
 
 -- the condition of the table's rows on the event itself
 abbrev pub MayCome : State → Act → Type 0

@@ -7,7 +7,8 @@ pub fn a_reply_fixes_the_new_state()
     ensures { OneNewState }
 {}
 
-/// Only an admit, and a device that may fail, leave the reply open.
+/// Only an admit before any write or sync has failed, and a device that may fail, leave the reply
+/// open.
 pub fn only_admit_and_the_device_are_free()
     ensures { OneReply }
 {}
