@@ -49,6 +49,12 @@ first_state blobs next = record {
 abbrev pub last_state : History → ℕ → State
 last_state h next = state_after (setting_of h) (first_state (opening_map h) next) h.events
 
+-- the relation holds from each of these to the next
+abbrev pub FromEachToNext : {X : Type 0} → (X → X → Type 0) → List X → Type 0
+FromEachToNext R [] = Unit {0}
+FromEachToNext R (x ∷ []) = Unit {0}
+FromEachToNext R (x ∷ y ∷ xs) = R x y × FromEachToNext R (y ∷ xs)
+
 -- the calls never fall, from this number on
 abbrev pub NeverFall : ℕ → List CoreEvent → Type 0
 NeverFall calls [] = Unit {0}

@@ -1,14 +1,14 @@
 -- What the rules mean together: each statement is the contract of a function of `laws`.
-use Rattle.std.specs.Prelude.{◌≡◌, ℕ, true, false, ◌-◌, ◌<◌, ◌≤◌, ◌⊎◌, cond, List, [], ◌∷◌, ◌++◌, length, Some, None, is_some}
+use Rattle.std.specs.Prelude.{◌≡◌, ℕ, true, false, ◌-◌, ◌<◌, ◌≤◌, ◌⊎◌, cond, List, [], ◌∷◌, ◌++◌, length, Some, None, is_some, IsTrue}
 use Rattle.std.specs.List.{count_by}
 use Rattle.spec_tree.specs.declared.Digest.{Digest}
 use Rattle.spec_tree.specs.Order.{same_digest}
 use Rattle.bv_model.specs.Choice.{choice, is_empty, place_of}
-use Rattle.bv_model.specs.History.{History, opening_map, last_state, room, Legal}
+use Rattle.bv_model.specs.History.{History, opening_map, last_state, room, Legal, FromEachToNext}
 use Rattle.bv_model.specs.Log.{changed, queued}
 use Rattle.bv_model.specs.State.{State, find, held, among, is_held}
 use Rattle.bv_model.specs.Step.{Chosen, Fits, Step, after}
-use Rattle.bv_model.specs.Synced.{log_lengths, synced_by, logged_by, fault_of}
+use Rattle.bv_model.specs.Synced.{log_lengths, synced_by, logged_by, tells_durable, fault_of}
 use Rattle.bv_model.specs.declared.act.Act.{Act}
 use Rattle.bv_model.specs.declared.act.Act.TheVariants.{Admit, Settle, Close, Unmount}
 use Rattle.bv_model.specs.declared.event.CoreEvent.{CoreEvent}
@@ -95,12 +95,18 @@ SlotsStay =
     (g : Setting) (s : State) (e : CoreEvent) (p : Place) (r : Digest) → Fits g s e → held s.slots p ≡ Some r
     → ¬ Empties p e.who e.act → held (after g s e).slots p ≡ Some r
 
--- after so many calls and with a log of this length, the log grows only in events that make calls
-abbrev pub GrowsWithCalls : ℕ → ℕ → List (CoreEvent × ℕ) → Type 0
-GrowsWithCalls calls len [] = Unit {0}
-GrowsWithCalls calls len (p ∷ ps) = ((calls < p.0.calls) ⊎ (p.1 ≡ len)) × GrowsWithCalls p.0.calls p.1 ps
+-- each event that makes the log durable has more calls than the event before it
+abbrev pub SyncsInCalls : History → Type 0
+SyncsInCalls h =
+    FromEachToNext (λ old new. IsTrue (tells_durable new.reply) → old.calls < new.calls) h.events
 
--- what is durable is logged, where the log grows only in events that make calls
+-- each event in which the log grows has more calls than the event before it
+abbrev pub LogsInCalls : History → Type 0
+LogsInCalls h = FromEachToNext (λ old new. old.1 < new.1 → old.0.calls < new.0.calls) (log_lengths h)
+
+-- what is durable after so many calls was logged by then, where each sync makes a call of its own,
+-- or each event that logs does
 abbrev pub SyncedIsLogged : Type 0
 SyncedIsLogged =
-    (h : History) (next calls : ℕ) → Legal h next → GrowsWithCalls 0 0 (log_lengths h) → synced_by h calls ≤ logged_by h calls
+    (h : History) (next calls : ℕ) → Legal h next → SyncsInCalls h ⊎ LogsInCalls h
+    → synced_by h calls ≤ logged_by h calls

@@ -53,7 +53,8 @@ pub fn slots_keep_their_roots()
     ensures { SlotsStay }
 {}
 
-/// What is durable was logged by then.
+/// What is durable after so many calls was logged by then, where each sync makes a call of its own,
+/// or each event that logs does.
 pub fn what_is_synced_was_logged()
     ensures { SyncedIsLogged }
 {}

@@ -9,7 +9,7 @@ use Rattle.bv_model.specs.declared.act.Act.{Act}
 use Rattle.bv_model.specs.declared.act.Act.TheVariants as acts
 use Rattle.bv_model.specs.declared.reply.Reply.TheVariants as replies
 use Rattle.bv_model.specs.declared.event.CoreEvent.{CoreEvent}
-use Rattle.bv_model.specs.History.{History}
+use Rattle.bv_model.specs.History.{History, FromEachToNext}
 use Rattle.bv_model.specs.Synced.{tells_durable}
 
 -- the device's event at a place, or none
@@ -24,12 +24,6 @@ IsOkWrite (device.Sync ok) = ⊥
 abbrev pub IsOkSync : Event → Type 0
 IsOkSync (device.Write at bytes ok) = ⊥
 IsOkSync (device.Sync ok) = IsTrue ok
-
--- the relation holds from each event of a history to the next
-abbrev pub FromEachToNext : (CoreEvent → CoreEvent → Type 0) → List CoreEvent → Type 0
-FromEachToNext R [] = Unit {0}
-FromEachToNext R (e ∷ []) = Unit {0}
-FromEachToNext R (e ∷ f ∷ events) = R e f × FromEachToNext R (f ∷ events)
 
 -- the last of these events, if there is one, has P
 abbrev pub LastHas : (CoreEvent → Type 0) → List CoreEvent → Type 0

@@ -31,8 +31,8 @@ pub fn a_synced_log_is_in_every_image()
         → HoldsWhole j (changed (opening_map h) (log_of h)) }
 {}
 
-/// What is durable at a moment of the device was logged by then.
-pub fn what_is_synced_was_logged()
+/// In a history that keeps the theorem, what is durable at a moment of the device was logged by then.
+pub fn where_the_theorem_holds_what_is_synced_was_logged()
     ensures { (base : Blocks) (events : List Event) (h : History) (n : ℕ)
         → CrashPrefix base events h → n ≤ length events → synced_by h n ≤ logged_by h n }
 {}

@@ -2,7 +2,7 @@
 use Rattle.std.proofs.Common.{take, inl, arith}
 use Rattle.spec_disk.specs.Disk.{synced_after}
 use Rattle.spec_disk.proofs.ImageLemmas.{image-synced}
-use Rattle.spec_crash.proofs.laws.what_is_synced_was_logged.Goals as goal
+use Rattle.spec_crash.proofs.laws.where_the_theorem_holds_what_is_synced_was_logged.Goals as goal
 
 pub returns : goal.returns
 returns c = λ base events h n crash within.
