@@ -86,6 +86,10 @@ nowhere = record { holders = 0; leaving = false }
 abbrev pub less_one : Standing → Standing
 less_one was = record { holders = was.holders - 1; leaving = was.leaving && not (was.holders - 1 == 0) }
 
+-- the root leaves with a slot that is closed, the last that held it
+abbrev pub goes_with : Standing → Bool
+goes_with root = root.leaving && (root.holders - 1 == 0)
+
 -- whether a place held this root
 abbrev pub is_root : Digest → Option Digest → Bool
 is_root r None = false
@@ -127,7 +131,7 @@ all_purged t = record t { log = t.log + t.queue; queue = 0 }
 -- how many there are after a deed, before which the root that it closes or unlinks stood so
 abbrev pub lengths_next : Lengths → Standing → Deed → Lengths
 lengths_next t root (Closes p) =
-    cond (root.leaving && (root.holders - 1 == 0)) (record t { leaving = t.leaving - 1; queue = t.queue + 1 }) t
+    cond (goes_with root) (record t { leaving = t.leaving - 1; queue = t.queue + 1 }) t
 lengths_next t root (Unlinks r) =
     cond (root.holders == 0) (record t { queue = t.queue + 1 }) (record t { leaving = t.leaving + 1 })
 lengths_next t root (Publishes r) = record (all_purged t) { log = t.log + t.queue + 1 }

@@ -6,7 +6,7 @@ use Rattle.spec_tree.specs.Tree.{need_of}
 use Rattle.spec_tree.specs.declared.Digest.{Digest}
 use Rattle.spec_tree.specs.declared.blob.Blob.{Blob}
 use Rattle.spec_tree.specs.Order.{same_digest}
-use Rattle.bv_model.specs.Rescan.{deed_of}
+use Rattle.bv_model.specs.Rescan.{deed_of, goes_with}
 use Rattle.bv_model.specs.Room.{blob_need}
 use Rattle.bv_model.specs.State.{State, find, held}
 use Rattle.bv_model.specs.declared.act.Act.{Act}
@@ -108,7 +108,7 @@ all_let_go t = record t { queued = t.queued + t.leaving; leaving = 0 }
 -- so many blocks
 abbrev pub by_deed : Taken → Standing → ℕ → Deed → Taken
 by_deed t root need (deeds.Closes p) =
-    cond (root.leaving && (root.holders - 1 == 0)) (record t { leaving = t.leaving - need; queued = t.queued + need }) t
+    cond (goes_with root) (record t { leaving = t.leaving - need; queued = t.queued + need }) t
 by_deed t root need (deeds.Unlinks r) =
     cond (root.holders == 0) (record t { queued = t.queued + need }) (record t { leaving = t.leaving + need })
 by_deed t root need (deeds.Publishes r) = record t { purged = t.purged + t.queued; queued = 0 }

@@ -1,6 +1,6 @@
 //! What the core has after a history's first events, found without memory: by going over them again.
 
-ghost use Rattle.std.specs.Prelude.{◌≡◌, ℕ, ◌≤◌, ◌<◌, ◌+◌, ◌^◌, ◌&&◌, nat_le, length};
+ghost use Rattle.std.specs.Prelude.{◌≡◌, ℕ, ◌≤◌, ◌<◌, ◌+◌, ◌^◌, ◌-◌, ◌==◌, ◌&&◌, cond, nat_le, length};
 ghost use Rattle.bv_model.specs.History.{Legal};
 ghost use Rattle.bv_model.specs.Rescan as C;
 ghost use Rattle.bv_model.specs.State as S;
@@ -33,6 +33,15 @@ const NOWHERE: Standing = Standing {
     holders: 0,
     leaving: false,
 };
+
+impl Standing {
+    /// Whether the root leaves with a slot that is closed, the last that held it.
+    pub(crate) fn goes(self) -> bool
+        ensures { result ≡ C.goes_with self }
+    {
+        self.leaving && self.holders.saturating_sub(1) == 0
+    }
+}
 
 /// What a place holds after a deed.
 fn held_next(place: Place, was: Option<Digest>, deed: Deed) -> Option<Digest>
@@ -189,6 +198,37 @@ impl Lengths {
         }
     }
 
+    /// How many there are once a leaving root is queued.
+    fn one_let_go(self) -> Lengths
+        requires { self.queue + 1 < 2 ^ 64 }
+        ensures { result ≡ record self { leaving = self.leaving - 1; queue = self.queue + 1 } }
+    {
+        Lengths {
+            leaving: self.leaving.saturating_sub(1),
+            queue: self.queue + 1,
+            ..self
+        }
+    }
+
+    /// How many there are once a root that stood so is unlinked.
+    fn one_unlinked(self, root: Standing) -> Lengths
+        requires { C.in_all self + 1 < 2 ^ 64 }
+        ensures { result ≡ cond (root.holders == 0)
+            (record self { queue = self.queue + 1 }) (record self { leaving = self.leaving + 1 }) }
+    {
+        if root.holders == 0 {
+            Lengths {
+                queue: self.queue + 1,
+                ..self
+            }
+        } else {
+            Lengths {
+                leaving: self.leaving + 1,
+                ..self
+            }
+        }
+    }
+
     /// How many there are after a deed, before which the root that it closes or unlinks stood so.
     fn next(self, root: Standing, deed: Deed) -> Lengths
         requires { C.in_all self + 1 < 2 ^ 64 }
@@ -197,29 +237,13 @@ impl Lengths {
     {
         match deed {
             Deed::Closes { .. } => {
-                if root.leaving && root.holders.saturating_sub(1) == 0 {
-                    Lengths {
-                        leaving: self.leaving.saturating_sub(1),
-                        queue: self.queue + 1,
-                        ..self
-                    }
+                if root.goes() {
+                    self.one_let_go()
                 } else {
                     self
                 }
             }
-            Deed::Unlinks { .. } => {
-                if root.holders == 0 {
-                    Lengths {
-                        queue: self.queue + 1,
-                        ..self
-                    }
-                } else {
-                    Lengths {
-                        leaving: self.leaving + 1,
-                        ..self
-                    }
-                }
-            }
+            Deed::Unlinks { .. } => self.one_unlinked(root),
             Deed::Publishes { .. } => {
                 let purged = self.all_purged();
                 Lengths {

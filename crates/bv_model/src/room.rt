@@ -1,6 +1,6 @@
 //! The room that a history leaves, found without memory: by going over its events again.
 
-ghost use Rattle.std.specs.Prelude.{◌≡◌, ℕ, ◌≤◌, ◌<◌, ◌+◌, ◌*◌, ◌-◌, ◌^◌, length};
+ghost use Rattle.std.specs.Prelude.{◌≡◌, ℕ, ◌≤◌, ◌<◌, ◌+◌, ◌*◌, ◌-◌, ◌^◌, ◌==◌, cond, length};
 ghost use Rattle.std.specs.List.{sum_by};
 ghost use Rattle.std.specs.Map.{values_of};
 ghost use Rattle.bv_model.specs.History.{Legal, setting_of, opening_map, room};
@@ -207,6 +207,39 @@ impl Taken {
         }
     }
 
+    /// The blocks once a leaving blob of so many is queued.
+    fn one_let_go(self, need: u128) -> Taken
+        requires { T.in_all self + need < 2 ^ 128 }
+        ensures { result
+            ≡ record self { leaving = self.leaving - need; queued = self.queued + need } }
+    {
+        Taken {
+            leaving: self.leaving.saturating_sub(need),
+            queued: self.queued + need,
+            ..self
+        }
+    }
+
+    /// The blocks once a blob of so many is unlinked, whose root stood so.
+    fn one_unlinked(self, root: Standing, need: u128) -> Taken
+        requires { T.in_all self + need < 2 ^ 128 }
+        ensures { result ≡ cond (root.holders == 0)
+            (record self { queued = self.queued + need })
+            (record self { leaving = self.leaving + need }) }
+    {
+        if root.holders == 0 {
+            Taken {
+                queued: self.queued + need,
+                ..self
+            }
+        } else {
+            Taken {
+                leaving: self.leaving + need,
+                ..self
+            }
+        }
+    }
+
     /// The blocks after a deed, before which the root that it closes or unlinks stood so, and the
     /// root's blob had `need` blocks.
     fn by_deed(self, root: Standing, need: u64, deed: Deed) -> Taken
@@ -214,32 +247,15 @@ impl Taken {
         ensures step { result ≡ T.by_deed self root need deed }
         ensures bound { T.in_all result ≤ T.in_all self + need }
     {
-        let need = u128::from(need);
         match deed {
             Deed::Closes { .. } => {
-                if root.leaving && root.holders.saturating_sub(1) == 0 {
-                    Taken {
-                        leaving: self.leaving.saturating_sub(need),
-                        queued: self.queued + need,
-                        ..self
-                    }
+                if root.goes() {
+                    self.one_let_go(u128::from(need))
                 } else {
                     self
                 }
             }
-            Deed::Unlinks { .. } => {
-                if root.holders == 0 {
-                    Taken {
-                        queued: self.queued + need,
-                        ..self
-                    }
-                } else {
-                    Taken {
-                        leaving: self.leaving + need,
-                        ..self
-                    }
-                }
-            }
+            Deed::Unlinks { .. } => self.one_unlinked(root, u128::from(need)),
             Deed::Publishes { .. } => Taken {
                 purged: self.purged + self.queued,
                 queued: 0,
