@@ -12,27 +12,31 @@ use Rattle.spec_tree.specs.declared.Digest.{Digest}
 use Rattle.spec_tree.specs.declared.blob.Blob.{Blob}
 use Rattle.spec_tree.specs.Order.{digest_cmp, same_digest}
 use Rattle.bv_model.proofs.Counting.{count-cons, count-insert_key-le, count-remove_key, length-insert_key}
-use Rattle.bv_model.proofs.Deeds.{by_deed, alike, ready, deed_stopped, Ready}
+use Rattle.bv_model.proofs.Deeds.{by_deed, alike, Alike, ready, deed_stopped, Ready, failing, was_going}
 use Rattle.bv_model.proofs.EntryLemmas.{lookup-insert_entry, lookup-remove_other}
 use Rattle.bv_model.proofs.Holding.{digest_total, one_digest, changed-append, find-purges}
 use Rattle.bv_model.proofs.Rescans.{same_self, not_among, is_held_by_count, less, holders_less, its_deed, fits_at, steps_to, state_more}
-use Rattle.bv_model.specs.Change.{let_go, emptied, unlinked, slots_emptied}
+use Rattle.bv_model.specs.Change.{change, let_go, emptied, unlinked, slots_emptied}
+use Rattle.bv_model.specs.Choice.{choice}
 use Rattle.bv_model.specs.History.{History, setting_of, opening_map, first_state, last_state, Legal}
 use Rattle.bv_model.specs.Laws.{UnlinkedRootsStay, QueueIsPurged}
 use Rattle.bv_model.specs.Log.{changed, purges, purge_of, without, queued, flushed}
 use Rattle.bv_model.specs.Order.{place_cmp}
-use Rattle.bv_model.specs.Rescan.{state_at, standing_for, standing_of_root, lengths_next}
+use Rattle.bv_model.specs.Rescan.{state_at, deed_of, fails, published_by, standing_for, standing_of_root, all_purged, lengths_next}
 use Rattle.bv_model.specs.State.{State, find, among, held, holders, is_held}
-use Rattle.bv_model.specs.Step.{Fits, after, state_after, Steps}
+use Rattle.bv_model.specs.Step.{Chosen, Fits, after, state_after, Steps}
+use Rattle.bv_model.specs.declared.act.Act.{Act}
 use Rattle.bv_model.specs.declared.deed.Deed.{Deed}
 use Rattle.bv_model.specs.declared.deed.Deed.TheVariants.{Nothing, Opens, Closes, Unlinks, Publishes, Purges, Empties}
 use Rattle.bv_model.specs.declared.event.CoreEvent.{CoreEvent}
 use Rattle.bv_model.specs.declared.map_change.MapChange.{MapChange}
 use Rattle.bv_model.specs.declared.map_change.MapChange.TheVariants.{Publish}
 use Rattle.bv_model.specs.declared.place.Place.{Place}
+use Rattle.bv_model.specs.declared.reply.Reply.{Reply}
 use Rattle.bv_model.specs.declared.reply.Reply.TheVariants.{Unlinked}
 use Rattle.bv_model.specs.declared.rescan.Lengths.{Lengths}
 use Rattle.bv_model.specs.declared.setting.Setting.{Setting}
+use Rattle.bv_model.specs.declared.who.Who.{Who}
 
 -- ---- a root is queued or leaves at most once, and only while it is in the map
 
@@ -158,27 +162,28 @@ length-purges m (x ∷ rs) k = let tail = length-purges (without m x) rs in go (
 
 -- ---- how many
 
-pub record LengthsOf (s : State) (t : Lengths) : Type 0 where
-  pub log : t.log ≡ length s.log
+-- the lengths are those of a state, where a failed entry logged so much more
+pub record LengthsOf (s : State) (t : Lengths) (failed : ℕ) : Type 0 where
+  pub log : t.log + failed ≡ length s.log
   pub leaving : t.leaving ≡ length s.leaving
   pub queue : t.queue ≡ length s.queue
 
-module _ (s : State) (t : Lengths) (n : LengthsOf s t) where
-  lengths_unlinked : (x : Digest) → among s.leaving x ≡ false → LengthsOf (unlinked s x Unlinked) (cond (holders s.slots x == 0) (record t { queue = t.queue + 1 }) (record t { leaving = t.leaving + 1 }))
+module _ (s : State) (t : Lengths) (failed : ℕ) (n : LengthsOf s t failed) where
+  lengths_unlinked : (x : Digest) → among s.leaving x ≡ false → LengthsOf (unlinked s x Unlinked) (cond (holders s.slots x == 0) (record t { queue = t.queue + 1 }) (record t { leaving = t.leaving + 1 })) failed
   lengths_unlinked x free = rw (is_held_by_count s x) (go (holders s.slots x == 0))
     where
-      go : (b : Bool) → LengthsOf (cond (not b) (record s { leaving = insert_key digest_cmp s.leaving x }) (record s { queue = s.queue ++ x ∷ [] })) (cond b (record t { queue = t.queue + 1 }) (record t { leaving = t.leaving + 1 }))
+      go : (b : Bool) → LengthsOf (cond (not b) (record s { leaving = insert_key digest_cmp s.leaving x }) (record s { queue = s.queue ++ x ∷ [] })) (cond b (record t { queue = t.queue + 1 }) (record t { leaving = t.leaving + 1 })) failed
       go true = record { log = n.log; leaving = n.leaving; queue = omega (arith, n.queue, length-append s.queue (x ∷ [])) }
       go false = record { log = n.log; leaving = omega (arith, n.leaving, length-insert_key digest_cmp s.leaving x free); queue = n.queue }
 
-  lengths_emptied : (p : Place) (o : Option Digest) → held s.slots p ≡ o → LengthsOf (emptied s p o) (lengths_next t (standing_of_root s o) (Closes p))
+  lengths_emptied : (p : Place) (o : Option Digest) → held s.slots p ≡ o → LengthsOf (emptied s p o) (lengths_next t (standing_of_root s o) (Closes p)) failed
   lengths_emptied p None h = n
   lengths_emptied p (Some x) h =
       let one : cond (same_digest x x) 1 0 ≡ 1 = ap (λ (b : Bool). cond {A = ℕ} b 1 0) (same_self x) in
       let fewer : holders s.slots x - 1 ≡ holders (less s p x h).slots x = omega (arith, holders_less s p x h x, one) in
       rw (is_held_by_count (less s p x h) x, fewer) (go (among s.leaving x) (holders (less s p x h).slots x == 0) refl)
     where
-      go : (a b : Bool) → among s.leaving x ≡ a → LengthsOf (cond (a && not (not b)) (record (less s p x h) { leaving = remove_key (is_at (digest_cmp x)) s.leaving; queue = s.queue ++ x ∷ [] }) (less s p x h)) (cond (a && b) (record t { leaving = t.leaving - 1; queue = t.queue + 1 }) t)
+      go : (a b : Bool) → among s.leaving x ≡ a → LengthsOf (cond (a && not (not b)) (record (less s p x h) { leaving = remove_key (is_at (digest_cmp x)) s.leaving; queue = s.queue ++ x ∷ [] }) (less s p x h)) (cond (a && b) (record t { leaving = t.leaving - 1; queue = t.queue + 1 }) t) failed
       go true true e = record { log = n.log; leaving = omega (arith, n.leaving, length-remove_key (is_at (digest_cmp x)) s.leaving e); queue = omega (arith, n.queue, length-append s.queue (x ∷ [])) }
       go true false e = record { log = n.log; leaving = n.leaving; queue = n.queue }
       go false b e = record { log = n.log; leaving = n.leaving; queue = n.queue }
@@ -186,51 +191,84 @@ module _ (s : State) (t : Lengths) (n : LengthsOf s t) where
 length-queued : (s : State) → Once s → length (queued s) ≡ length s.queue
 length-queued s k = length-purges s.map s.queue (λ r. omega (arith, k r))
 
-lengths_flushed : (s : State) (log leaving queue : ℕ) (cs : List MapChange) → Once s → log ≡ length s.log → leaving ≡ length s.leaving → queue ≡ length s.queue → LengthsOf (flushed s cs) (record { log = log + queue + length cs; leaving = leaving; queue = 0 })
-lengths_flushed s log leaving queue cs k h e f = record {
-  log = omega (arith, h, f, length-queued s k, length-append s.log (queued s ++ cs), length-append (queued s) cs);
-  leaving = e;
-  queue = refl;
-}
-
-lengths_by_deed : (g : Setting) (s : State) (t : Lengths) (d : Deed) → Once s → Ready s d → LengthsOf s t → LengthsOf (by_deed g s d) (lengths_next t (standing_for s d) d)
-lengths_by_deed g s t Nothing k a n = n
-lengths_by_deed g s t (Opens p x) k a n = record { log = n.log; leaving = n.leaving; queue = n.queue }
-lengths_by_deed g s t (Closes p) k a n = lengths_emptied s t n p (held s.slots p) refl
-lengths_by_deed g s t (Unlinks x) k a n = lengths_unlinked s t n x a.1
-lengths_by_deed g s t (Publishes x) k a n = lengths_flushed s t.log t.leaving t.queue _ k n.log n.leaving n.queue
-lengths_by_deed g s t Purges k a n = record {
-  log = omega (arith, (lengths_flushed s t.log t.leaving t.queue [] k n.log n.leaving n.queue).log);
+lengths_flushed : (s : State) (t : Lengths) (failed : ℕ) (cs : List MapChange) → Once s → LengthsOf s t failed → LengthsOf (flushed s cs) (record { log = t.log + t.queue + length cs; leaving = t.leaving; queue = 0 }) failed
+lengths_flushed s t failed cs k n = record {
+  log = omega (arith, n.log, n.queue, length-queued s k, length-append s.log (queued s ++ cs), length-append (queued s) cs);
   leaving = n.leaving;
   queue = refl;
 }
-lengths_by_deed g s t (Empties true) k a n = record {
-  log = omega (arith, (lengths_flushed (slots_emptied s) t.log 0 (t.queue + t.leaving) [] (once_slots_emptied s k) n.log refl (omega (arith, n.queue, n.leaving, length-append s.queue s.leaving))).log);
-  leaving = refl;
-  queue = refl;
-}
-lengths_by_deed g s t (Empties false) k a n = record {
+
+lengths_purged : (s : State) (t : Lengths) (failed : ℕ) → Once s → LengthsOf s t failed → LengthsOf (flushed s []) (all_purged t) failed
+lengths_purged s t failed k n =
+    let u = lengths_flushed s t failed [] k n in record { log = omega (arith, u.log); leaving = u.leaving; queue = refl }
+
+lengths_slots_emptied : (s : State) (t : Lengths) (failed : ℕ) → LengthsOf s t failed → LengthsOf (slots_emptied s) (record t { leaving = 0; queue = t.queue + t.leaving }) failed
+lengths_slots_emptied s t failed n = record {
   log = n.log;
   leaving = refl;
   queue = omega (arith, n.queue, n.leaving, length-append s.queue s.leaving);
 }
 
-pub lengths_more : (h : History) (next i : ℕ) (d : CoreEvent) (t : Lengths) → Legal h next → i < length h.events → ((state_at h next i).stopped ≡ None → LengthsOf (state_at h next i) t)
-    → (state_at h next (i + 1)).stopped ≡ None → LengthsOf (state_at h next (i + 1)) (lengths_next t (standing_for (state_at h next i) (its_deed (get_or h.events i d))) (its_deed (get_or h.events i d)))
-lengths_more h next i d t legal short n going =
-    let g : Setting = setting_of h in
-    let s : State = state_at h next i in
-    let e : CoreEvent = get_or h.events i d in
-    let deed : Deed = its_deed e in
-    let same = alike g s e.who e.act e.reply in
-    let more = same.going (ap (λ (u : State). u.stopped) (sym (state_more h next i d short)) ∙ going) in
-    let before = sym (deed_stopped g s deed) ∙ more.0 in
-    let u = lengths_by_deed g s t deed (once_at h next i legal) (ready g s e.who e.act e.reply (fits_at h next legal i d short)) (n before) in
-    rw (state_more h next i d short) (record {
-      log = u.log ∙ sym (ap length more.1);
-      leaving = u.leaving ∙ sym (ap length same.leaving);
-      queue = u.queue ∙ sym (ap length same.queue);
-    })
+lengths_by_deed : (g : Setting) (s : State) (t : Lengths) (failed : ℕ) (d : Deed) → Once s → Ready s d → LengthsOf s t failed → LengthsOf (by_deed g s d) (lengths_next t (standing_for s d) d) failed
+lengths_by_deed g s t failed Nothing k a n = n
+lengths_by_deed g s t failed (Opens p x) k a n = record { log = n.log; leaving = n.leaving; queue = n.queue }
+lengths_by_deed g s t failed (Closes p) k a n = lengths_emptied s t failed n p (held s.slots p) refl
+lengths_by_deed g s t failed (Unlinks x) k a n = lengths_unlinked s t failed n x a.1
+lengths_by_deed g s t failed (Publishes x) k a n = lengths_flushed s t failed _ k n
+lengths_by_deed g s t failed Purges k a n = lengths_purged s t failed k n
+lengths_by_deed g s t failed (Empties true) k a n =
+    lengths_purged (slots_emptied s) (record t { leaving = 0; queue = t.queue + t.leaving }) failed (once_slots_emptied s k) (lengths_slots_emptied s t failed n)
+lengths_by_deed g s t failed (Empties false) k a n = lengths_slots_emptied s t failed n
+
+-- the lengths are the state's, where an entry failed only in a state that is stopped
+pub record Follows (s : State) (t : Lengths) (failed : ℕ) : Type 0 where
+  pub lengths : LengthsOf s t failed
+  pub going : s.stopped ≡ None → failed ≡ 0
+
+follows_change : (g : Setting) (s : State) (t : Lengths) (failed : ℕ) (w : Who) (a : Act) (q : Reply) (b : Bool) → Once s → Chosen (choice g s w a) q → Follows s t failed → fails a q ≡ b
+    → Follows (change g s w a q) (lengths_next t (standing_for s (deed_of w a q)) (deed_of w a q)) (cond b ((lengths_next t (standing_for s (deed_of w a q)) (deed_of w a q)).queue + published_by a) failed)
+follows_change g s t failed w a q b k c n e = go b e
+  where
+    d : Deed
+    d = deed_of w a q
+
+    by : State
+    by = by_deed g s d
+
+    same : Alike (fails a q) (change g s w a q) by
+    same = alike g s w a q
+
+    now : Lengths
+    now = lengths_next t (standing_for s d) d
+
+    u : LengthsOf by now failed
+    u = lengths_by_deed g s t failed d k (ready g s w a q c) n.lengths
+
+    go : (b : Bool) → fails a q ≡ b → Follows (change g s w a q) now (cond b (now.queue + published_by a) failed)
+    go false e = record {
+      lengths = record {
+        log = u.log ∙ sym (ap length (same.log e));
+        leaving = u.leaving ∙ sym (ap length same.leaving);
+        queue = u.queue ∙ sym (ap length same.queue);
+      };
+      going = λ h. n.going (sym (deed_stopped g s d) ∙ same.going h);
+    }
+    go true e =
+        let (cs, long, log, stops) = failing g s w a q e in
+        record {
+          lengths = record {
+            log = omega (arith, u.log, u.queue, n.going (was_going g s w a q e c), long, ap length log, length-append by.log (queued by ++ cs), length-append (queued by) cs, length-queued by (once_by_deed g s d k (ready g s w a q c)));
+            leaving = u.leaving ∙ sym (ap length same.leaving);
+            queue = u.queue ∙ sym (ap length same.queue);
+          };
+          going = λ h. let no = rw h at stops in cc;
+        }
+
+pub lengths_more : (h : History) (next i : ℕ) (d : CoreEvent) (t : Lengths) (failed : ℕ) (b : Bool) → Legal h next → i < length h.events → fails (get_or h.events i d).act (get_or h.events i d).reply ≡ b → Follows (state_at h next i) t failed
+    → Follows (state_at h next (i + 1)) (lengths_next t (standing_for (state_at h next i) (its_deed (get_or h.events i d))) (its_deed (get_or h.events i d))) (cond b ((lengths_next t (standing_for (state_at h next i) (its_deed (get_or h.events i d))) (its_deed (get_or h.events i d))).queue + published_by (get_or h.events i d).act) failed)
+lengths_more h next i d t failed b legal short e n =
+    let event : CoreEvent = get_or h.events i d in
+    rw (state_more h next i d short) (follows_change (setting_of h) (state_at h next i) t failed event.who event.act event.reply b (once_at h next i legal) (fits_at h next legal i d short) n e)
 
 -- ---- laws
 

@@ -7,7 +7,7 @@ use Rattle.std.specs.BTreeMap.{insert_entry, is_at}
 use Rattle.std.specs.BTreeSet.{insert_key}
 use Rattle.std.specs.Map.{remove_entry}
 use Rattle.std.specs.Set.{remove_key}
-use Rattle.std.proofs.lemmas.List.{take_more, take-append-drop}
+use Rattle.std.proofs.lemmas.List.{take_all, take_more, take-append-drop}
 use Rattle.spec_tree.specs.declared.Digest.{Digest}
 use Rattle.spec_tree.specs.Order.{digest_cmp, same_digest}
 use Rattle.bv_model.proofs.Counting.{eq_from, any-count, count-insert_entry, count-remove_entry, count-remove_entry-le, none-counted, none-left, count-insert_key-le, count-remove_key, any-insert_key, any-remove_other}
@@ -17,7 +17,7 @@ use Rattle.bv_model.proofs.Histories.{state_after-push, Steps-pop}
 use Rattle.bv_model.proofs.Holding.{digest_total, one_digest}
 use Rattle.bv_model.proofs.Slots.{place_total, one_place, let_go_slots}
 use Rattle.bv_model.specs.Change.{let_go, emptied, unlinked}
-use Rattle.bv_model.specs.History.{History, setting_of, opening_map, first_state, Legal}
+use Rattle.bv_model.specs.History.{History, setting_of, opening_map, first_state, last_state, Legal}
 use Rattle.bv_model.specs.Order.{place_cmp}
 use Rattle.bv_model.specs.Rescan.{state_at, deed_of, held_next, standing_in, standing_next, less_one, is_root, closed_root}
 use Rattle.bv_model.specs.State.{State, among, held, holders, is_held}
@@ -255,6 +255,9 @@ module _ (h : History) (next : ℕ) (legal : Legal h next) where
 
 pub state_more : (h : History) (next i : ℕ) (d : CoreEvent) → i < length h.events → state_at h next (i + 1) ≡ after (setting_of h) (state_at h next i) (get_or h.events i d)
 state_more h next i d short = ap (state_after (setting_of h) (first_state (opening_map h) next)) (take_more h.events i d short) ∙ state_after-push (setting_of h) (first_state (opening_map h) next) (take i h.events) (get_or h.events i d)
+
+pub state_at_end : (h : History) (next i : ℕ) → i ≡ length h.events → state_at h next i ≡ last_state h next
+state_at_end h next i e = ap (λ es. state_after (setting_of h) (first_state (opening_map h) next) es) (ap (λ n. take n h.events) e ∙ take_all (length h.events) h.events (omega arith))
 
 -- the deed of an event
 abbrev pub its_deed : CoreEvent → Deed

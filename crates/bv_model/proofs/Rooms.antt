@@ -14,7 +14,7 @@ use Rattle.spec_tree.specs.declared.Digest.{Digest}
 use Rattle.spec_tree.specs.declared.blob.Blob.{Blob}
 use Rattle.spec_tree.specs.Order.{digest_cmp, same_digest}
 use Rattle.bv_model.proofs.Adds.{Tabled, granted_new, settled_added, find-purged_none, tabled_slots_emptied, tabled_at}
-use Rattle.bv_model.proofs.Deeds.{ready}
+use Rattle.bv_model.proofs.Deeds.{ready, went, settle_went, unmount_went}
 use Rattle.bv_model.proofs.Holding.{one_digest, changed-append}
 use Rattle.bv_model.proofs.Lengths.{Once, once_at, once_slots_emptied}
 use Rattle.bv_model.proofs.Numbers.{numbers_are_apart}
@@ -55,20 +55,6 @@ pub record TakenOf (g : Setting) (s : State) (t : Taken) : Type 0 where
   pub taken : taken g s ≡ t.all + t.again
   pub adds : sum_by (need_of g.version) (values_of s.adds) ≤ t.all
   pub going : s.stopped ≡ None → Counts s t
-
--- ---- what the replies tell of a failure
-
-went : (o : Option ℕ) (c : Choice) (q : Reply) → ((f : ℕ) → ¬ (q ≡ Stopped f)) → Chosen (unless_stopped o c) q → o ≡ None
-went (Some f) c q other h = absurd (other f h)
-went None c q other h = refl
-
-settle_went : (p o : Option ℕ) (c : Choice) (q : Reply) → ((f : ℕ) → ¬ (q ≡ Stopped f)) → Chosen (if_added p (λ n. unless_stopped o c)) q → o ≡ None
-settle_went None o c q other h = absurd h
-settle_went (Some n) o c q other h = went o c q other h
-
-unmount_went : (b : Bool) (o : Option ℕ) (c : Choice) (q : Reply) → ((f : ℕ) → ¬ (q ≡ Stopped f)) → Chosen (cond b (unless_stopped o c) Never) q → o ≡ None
-unmount_went true o c q other h = went o c q other h
-unmount_went false o c q other h = absurd h
 
 -- ---- adds
 

@@ -15,7 +15,7 @@ use Rattle.bv_model.specs.declared.deed.Deed.{Deed}
 use Rattle.bv_model.specs.declared.deed.Deed.TheVariants.{Nothing, Opens, Closes, Unlinks, Publishes, Purges, Empties}
 use Rattle.bv_model.specs.declared.place.Place.{Place}
 use Rattle.bv_model.specs.declared.reply.Reply.{Reply}
-use Rattle.bv_model.specs.declared.reply.Reply.TheVariants.{Published, Opened, Closed, Unlinked, Synced, Unmounted}
+use Rattle.bv_model.specs.declared.reply.Reply.TheVariants.{Published, Opened, Closed, Unlinked, Synced, Unmounted, DeviceFault}
 use Rattle.bv_model.specs.declared.rescan.Lengths.{Lengths}
 use Rattle.bv_model.specs.declared.rescan.Standing.{Standing}
 use Rattle.bv_model.specs.declared.who.Who.{Who}
@@ -62,6 +62,23 @@ deed_of who (Unlink r) reply = unlink_deed r reply
 deed_of who Sync reply = sync_deed reply
 deed_of who Unmount reply = unmount_deed reply
 deed_of who _ reply = Nothing
+
+-- the reply tells that a write or sync failed
+abbrev pub is_failure : Reply → Bool
+is_failure (DeviceFault f) = true
+is_failure _ = false
+
+-- the device failed while an entry was written
+abbrev pub fails : Act → Reply → Bool
+fails (Settle r) reply = is_failure reply
+fails Sync reply = is_failure reply
+fails Unmount reply = is_failure reply
+fails _ reply = false
+
+-- how many blobs the entry of an event publishes
+abbrev pub published_by : Act → ℕ
+published_by (Settle r) = 1
+published_by _ = 0
 
 -- ---- what a place holds
 

@@ -6,7 +6,7 @@ use Rattle.spec_tree.specs.Tree.{need_of}
 use Rattle.spec_tree.specs.declared.Digest.{Digest}
 use Rattle.spec_tree.specs.declared.blob.Blob.{Blob}
 use Rattle.spec_tree.specs.Order.{same_digest}
-use Rattle.bv_model.specs.Rescan.{deed_of, goes_with}
+use Rattle.bv_model.specs.Rescan.{deed_of, fails, goes_with}
 use Rattle.bv_model.specs.Room.{blob_need}
 use Rattle.bv_model.specs.State.{State, find, held}
 use Rattle.bv_model.specs.declared.act.Act.{Act}
@@ -121,18 +121,6 @@ abbrev pub by_adding : Taken → Standing → ℕ → Adding → Deed → Taken
 by_adding t root need (Begins r n) deed = record t { all = t.all + need }
 by_adding t root need (Ends r) deed = record t { all = t.all - need }
 by_adding t root need _ deed = by_deed t root need deed
-
--- the reply tells that a write or sync failed
-abbrev pub is_failure : Reply → Bool
-is_failure (DeviceFault f) = true
-is_failure _ = false
-
--- the device failed while an entry was written
-abbrev pub fails : Act → Reply → Bool
-fails (Settle r) reply = is_failure reply
-fails Sync reply = is_failure reply
-fails Unmount reply = is_failure reply
-fails _ reply = false
 
 -- the queue's purges are then in the log, and their blobs still in the map
 abbrev pub counted_again : Bool → Taken → Taken

@@ -1,6 +1,6 @@
 //! What an event does to the slots and to the blobs.
 
-ghost use Rattle.std.specs.Prelude.{◌≡◌};
+ghost use Rattle.std.specs.Prelude.{◌≡◌, ◌≤◌};
 ghost use Rattle.bv_model.specs.Rescan as C;
 
 use crate::act::Act;
@@ -101,5 +101,25 @@ pub(crate) fn deed_of(event: &CoreEvent) -> Deed
         | Act::Read { .. }
         | Act::Scan { .. }
         | Act::List => Deed::Nothing,
+    }
+}
+
+/// Whether the device failed while an entry was written: what the entry logs is then in the log,
+/// and neither queue nor map has changed by it.
+pub(crate) fn fails(event: &CoreEvent) -> bool
+    ensures { result ≡ C.fails event.now.act event.now.reply }
+{
+    matches!(event.act, Act::Settle { .. } | Act::Sync | Act::Unmount)
+        && matches!(event.reply, Reply::DeviceFault { .. })
+}
+
+/// How many blobs the entry of an event publishes.
+pub(crate) fn published_by(act: Act) -> u64
+    ensures value { result ≡ C.published_by act }
+    ensures bound { result ≤ 1 }
+{
+    match act {
+        Act::Settle { .. } => 1,
+        _ => 0,
     }
 }

@@ -4,7 +4,8 @@ ghost use Rattle.std.specs.Prelude.{◌≡◌, ◌≤◌, ◌-◌, ◌++◌, ◌
 ghost use Rattle.bv_model.specs.History.{Legal, setting_of, last_state};
 
 use crate::{
-    Act, Blob, CoreEvent, History, Machine, Reply, Setting, Who, room_of, step_of, synced_by,
+    Act, Blob, CoreEvent, History, Machine, Reply, Setting, Who, logged_by, room_of, step_of,
+    synced_by,
 };
 use spec_tree::Digest;
 use std::alloc::{AllocError, Global};
@@ -42,7 +43,8 @@ fn note(history: &mut History, act: Act, reply: Reply, calls: u64)
     });
 }
 
-/// A blob is unlinked while it is open, then closed between two syncs; the third sync fails.
+/// A blob is unlinked while it is open, then closed between two syncs; the third sync, which has
+/// another blob to purge, fails.
 fn history_of_a_purge(alloc: Global) -> Result<History, AllocError>
     ensures { IfOk result (λ h. Legal h 1) }
 {
@@ -53,8 +55,9 @@ fn history_of_a_purge(alloc: Global) -> Result<History, AllocError>
     };
     let mut opening = Vec::new(alloc);
     opening.push((A, BLOCK, 1))?;
+    opening.push((B, BLOCK, 1))?;
     let mut history = History::new(alloc, setting, opening);
-    history.reserve(6)?;
+    history.reserve(8)?;
     note(
         &mut history,
         Act::Open { slot: 0, root: A },
@@ -65,19 +68,24 @@ fn history_of_a_purge(alloc: Global) -> Result<History, AllocError>
     note(&mut history, Act::Sync, Reply::Synced, 2);
     note(&mut history, Act::Close { slot: 0 }, Reply::Closed, 2);
     note(&mut history, Act::Sync, Reply::Synced, 4);
+    note(&mut history, Act::Unlink { root: B }, Reply::Unlinked, 4);
     note(&mut history, Act::Sync, Reply::DeviceFault { fault: 9 }, 5);
+    note(&mut history, Act::Unmount, Reply::Stopped { fault: 9 }, 5);
     Ok(history)
 }
 
 #[test]
-fn a_purge_is_durable_from_the_first_sync_after_the_last_close(
+fn a_purge_is_durable_from_its_sync_on_and_logged_from_the_calls_past_the_event_before(
     rt: HostRuntime,
 ) -> Result<(), Fail> {
     let history = history_of_a_purge(rt.alloc())?;
-    for (calls, synced) in [(0, 0), (2, 0), (3, 0), (4, 1), (9, 1)] {
+    // calls, with how much is synced and logged by them
+    let rows = [(0, 0, 0), (2, 0, 0), (3, 0, 1), (4, 1, 1), (5, 1, 2), (9, 1, 2)];
+    for (calls, synced, logged) in rows {
         assert_eq!(rt; synced_by(&history, calls), synced, "{calls}");
+        assert_eq!(rt; logged_by(&history, calls), logged, "{calls}");
     }
-    assert_eq!(rt; history.events().len(), 6);
+    assert_eq!(rt; history.events().len(), 8);
     Ok(())
 }
 

@@ -33,7 +33,7 @@ pub use map_change::MapChange;
 pub use need::worst_nodes;
 pub use place::Place;
 pub use reply::Reply;
-pub use rescan::synced_by;
+pub use rescan::{logged_by, synced_by};
 pub use room::room_of;
 pub use setting::Setting;
 pub use spec_tree::Blob;

@@ -6,7 +6,7 @@ ghost use Rattle.bv_model.specs.Rescan as C;
 ghost use Rattle.bv_model.specs.State as S;
 ghost use Rattle.bv_model.specs.Synced as Y;
 
-use crate::deed::{Deed, deed_of};
+use crate::deed::{Deed, deed_of, fails, published_by};
 use crate::event::CoreEvent;
 use crate::history::History;
 use crate::place::Place;
@@ -259,6 +259,32 @@ impl Lengths {
     }
 }
 
+/// How long the log is after the first `count` events.
+fn log_after(h: &History, count: usize) -> u64
+    requires { count ≤ length h.now.events }
+    ensures { C.After h.now count (λ s. result ≡ length s.log) }
+{
+    let events = h.events();
+    let mut lengths = Lengths {
+        log: 0,
+        leaving: 0,
+        queue: 0,
+    };
+    // what an entry logged that the device failed to write, after which nothing is logged
+    let mut failed = 0;
+    let mut log = 0;
+    for i in 0..count {
+        let event = events[i];
+        let deed = deed_of(&event);
+        lengths = lengths.next(standing_for(h, i, deed), deed);
+        if fails(&event) {
+            failed = lengths.queue + published_by(event.act);
+        }
+        log = lengths.log + failed;
+    }
+    log
+}
+
 /// Whether an event made all of the log durable, by so many calls of the device.
 fn is_by(event: &CoreEvent, calls: u64) -> bool
     ensures { result ≡ (Y.tells_durable event.now.reply && nat_le event.now.calls calls) }
@@ -274,19 +300,29 @@ pub fn synced_by(h: &History, calls: u64) -> u64
     requires legal { (next : ℕ) × Legal h.now next }
     ensures { result ≡ Y.synced_by h.now calls }
 {
-    let mut synced = 0;
-    let mut lengths = Lengths {
-        log: 0,
-        leaving: 0,
-        queue: 0,
-    };
-    for i in 0..h.events().len() {
-        let event = h.events()[i];
-        let deed = deed_of(&event);
-        lengths = lengths.next(standing_for(h, i, deed), deed);
-        if is_by(&event, calls) {
-            synced = lengths.log;
+    let events = h.events();
+    let mut count = 0;
+    for i in 0..events.len() {
+        if is_by(&events[i], calls) {
+            count = i + 1;
         }
     }
-    synced
+    log_after(h, count)
+}
+
+/// How much of the log may be durable after so many writes and syncs of the device: how long it was
+/// after the first event that ended with at least as many, or else after all.
+///
+/// Takes no memory, and time that grows with the cube of the events.
+pub fn logged_by(h: &History, calls: u64) -> u64
+    requires legal { (next : ℕ) × Legal h.now next }
+    ensures { result ≡ Y.logged_by h.now calls }
+{
+    let events = h.events();
+    for i in 0..events.len() {
+        if calls <= events[i].calls {
+            return log_after(h, i + 1);
+        }
+    }
+    log_after(h, events.len())
 }

@@ -9,13 +9,11 @@ ghost use Rattle.bv_model.specs.Room as R;
 ghost use Rattle.bv_model.specs.State as S;
 ghost use Rattle.bv_model.specs.Taking as T;
 
-use crate::act::Act;
 use crate::adding::{Adding, adding_of};
-use crate::deed::{Deed, deed_of};
+use crate::deed::{Deed, deed_of, fails};
 use crate::event::CoreEvent;
 use crate::history::History;
 use crate::need::blocks;
-use crate::reply::Reply;
 use crate::rescan::{Standing, held_after, standing_for};
 use spec_tree::{Blob, Digest};
 
@@ -170,15 +168,6 @@ fn event_need(h: &History, count: usize, event: &CoreEvent) -> u64
         Adding::Ends { root } => add_need(h, count, root),
         Adding::Publishes { .. } | Adding::Nothing => deed_need(h, count, deed_of(event)),
     }
-}
-
-/// Whether the device failed while an entry was written: the purges of the queue are then in the
-/// log, and their blobs still in the map.
-fn fails(event: &CoreEvent) -> bool
-    ensures { result ≡ T.fails event.now.act event.now.reply }
-{
-    matches!(event.act, Act::Settle { .. } | Act::Sync | Act::Unmount)
-        && matches!(event.reply, Reply::DeviceFault { .. })
 }
 
 impl Taken {
