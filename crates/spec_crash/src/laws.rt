@@ -15,7 +15,8 @@ ghost use Rattle.spec_crash.specs.Crash.{HoldsWhole, CrashPrefix, StopsWithin};
 ghost use Rattle.spec_crash.specs.Format.{head};
 ghost use Rattle.spec_crash.specs.Timing.{IsTimed, TimesOne};
 
-/// While nothing is logged, every image holds the opening map.
+/// In a history that keeps the theorem, while nothing is logged, every image in which no torn entry
+/// matches by chance holds the opening map.
 pub fn an_empty_log_keeps_the_opening_map()
     ensures { (base j : Blocks) (events : List Event) (h : History) (n : ℕ)
         → log_of h ≡ [] → CrashPrefix base events h → n ≤ length events
@@ -23,7 +24,8 @@ pub fn an_empty_log_keeps_the_opening_map()
         → HoldsWhole j (opening_map h) }
 {}
 
-/// Where the whole log was durable by then, every image holds the map after all of it.
+/// In a history that keeps the theorem, where the whole log was durable by then, every image in
+/// which no torn entry matches by chance holds the map after all of it.
 pub fn a_synced_log_is_in_every_image()
     ensures { (base j : Blocks) (events : List Event) (h : History) (n : ℕ)
         → synced_by h n ≡ length (log_of h) → CrashPrefix base events h → n ≤ length events
@@ -31,7 +33,8 @@ pub fn a_synced_log_is_in_every_image()
         → HoldsWhole j (changed (opening_map h) (log_of h)) }
 {}
 
-/// In a history that keeps the theorem, what is durable at a moment of the device was logged by then.
+/// In a history that keeps the theorem, what is durable at a moment of the device was logged by
+/// then.
 pub fn where_the_theorem_holds_what_is_synced_was_logged()
     ensures { (base : Blocks) (events : List Event) (h : History) (n : ℕ)
         → CrashPrefix base events h → n ≤ length events → synced_by h n ≤ logged_by h n }

@@ -1,5 +1,5 @@
-//! What a stop of the machine leaves of a volume: the theorem that every mounted volume keeps, and
-//! that of `format`.
+//! What a stop of the machine leaves of a volume: the theorem that a mounted volume has to keep,
+//! and that of `format`.
 #![tactic(auto)]
 
 mod laws;
