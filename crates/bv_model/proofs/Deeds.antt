@@ -12,7 +12,7 @@ use Rattle.bv_model.specs.Change.{change, begun, admitted, put_done, blob_of, se
 use Rattle.bv_model.specs.Choice.{choice, if_added, is_empty, open_choice, place_of, settle_choice, sync_choice, unless_stopped}
 use Rattle.bv_model.specs.Log.{flushed, queued}
 use Rattle.bv_model.specs.Order.{place_cmp}
-use Rattle.bv_model.specs.Rescan.{deed_of, settle_deed, open_deed, close_deed, unlink_deed, sync_deed, unmount_deed, is_failure, fails, published_by}
+use Rattle.bv_model.specs.Deeds.{deed_of, settle_deed, open_deed, close_deed, unlink_deed, sync_deed, unmount_deed, is_failure, fails, published_by}
 use Rattle.bv_model.specs.State.{State, find, among, held, is_held, is_unlinked, present}
 use Rattle.bv_model.specs.Step.{Chosen}
 use Rattle.bv_model.specs.declared.act.Act.{Act}

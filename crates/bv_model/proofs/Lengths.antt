@@ -22,8 +22,9 @@ use Rattle.bv_model.specs.History.{History, setting_of, opening_map, first_state
 use Rattle.bv_model.specs.Laws.{UnlinkedRootsStay, QueueIsPurged}
 use Rattle.bv_model.specs.Log.{changed, purges, purge_of, without, queued, flushed}
 use Rattle.bv_model.specs.Order.{place_cmp}
-use Rattle.bv_model.specs.Rescan.{state_at, deed_of, fails, published_by, standing_for, standing_of_root, all_purged, lengths_next}
-use Rattle.bv_model.specs.State.{State, find, among, held, holders, is_held}
+use Rattle.bv_model.specs.Deeds.{deed_of, fails, published_by}
+use Rattle.bv_model.specs.Rescan.{state_at, standing_for, standing_of_root, all_purged, lengths_next}
+use Rattle.bv_model.specs.State.{State, find, among, held, holders, is_held, is_unlinked}
 use Rattle.bv_model.specs.Step.{Chosen, Fits, after, state_after, Steps}
 use Rattle.bv_model.specs.declared.act.Act.{Act}
 use Rattle.bv_model.specs.declared.deed.Deed.{Deed}

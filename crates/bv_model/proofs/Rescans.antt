@@ -19,7 +19,8 @@ use Rattle.bv_model.proofs.Slots.{place_total, one_place, let_go_slots}
 use Rattle.bv_model.specs.Change.{let_go, emptied, unlinked}
 use Rattle.bv_model.specs.History.{History, setting_of, opening_map, first_state, last_state, Legal}
 use Rattle.bv_model.specs.Order.{place_cmp}
-use Rattle.bv_model.specs.Rescan.{state_at, deed_of, held_next, standing_in, standing_next, less_one, is_root, closed_root}
+use Rattle.bv_model.specs.Deeds.{deed_of}
+use Rattle.bv_model.specs.Rescan.{state_at, held_next, standing_in, standing_next, less_one, is_root, closed_root}
 use Rattle.bv_model.specs.State.{State, among, held, holders, is_held}
 use Rattle.bv_model.specs.Step.{Fits, after, state_after, Steps}
 use Rattle.bv_model.specs.declared.event.CoreEvent.{CoreEvent}

@@ -22,24 +22,23 @@ use Rattle.bv_model.proofs.Rescans.{same_self, is_held_by_count, less, holders_l
 use Rattle.bv_model.proofs.Sums.{sum_by-push}
 use Rattle.bv_model.proofs.Takings.{need_in, need_at, need_found, purged-need, queued-need, leaving-flushed, leaving-published, leaving_blob, sum-insert_entry, sum-insert_key, sum-remove_key}
 use Rattle.bv_model.specs.Change.{change, begun, admitted, put_done, blob_of, settled, opened, emptied, closed, unlinked, sync_done, slots_emptied, unmount_done, made_durable, add_ends}
-use Rattle.bv_model.specs.Choice.{choice, if_added, is_empty, place_of, settle_choice, sync_choice, unless_stopped}
+use Rattle.bv_model.specs.Choice.{choice, is_empty, place_of, settle_choice, sync_choice}
 use Rattle.bv_model.specs.History.{History, setting_of, opening_map, last_state, room, Legal}
 use Rattle.bv_model.specs.Log.{changed, queued, failed}
-use Rattle.bv_model.specs.Rescan.{state_at, deed_of, standing_of_root, standing_for}
+use Rattle.bv_model.specs.Deeds.{deed_of}
+use Rattle.bv_model.specs.Rescan.{state_at, standing_of_root, standing_for}
 use Rattle.bv_model.specs.Room.{blob_need, purge_need, taken, room_in}
 use Rattle.bv_model.specs.State.{State, find, among, held, holders}
 use Rattle.bv_model.specs.Step.{Chosen}
 use Rattle.bv_model.specs.Taking.{add_need, NeedsAt, NeedsOf, all_freed, all_let_go, taken_next}
 use Rattle.bv_model.specs.declared.act.Act.{Act}
 use Rattle.bv_model.specs.declared.act.Act.TheVariants.{Begin, Admit, Put, Settle, Retire, Open, Fetch, Read, Scan, Close, Unlink, Sync, List as ListAll, Unmount}
-use Rattle.bv_model.specs.declared.choice.Choice.{Choice}
-use Rattle.bv_model.specs.declared.choice.Choice.TheVariants.{Never}
 use Rattle.bv_model.specs.declared.event.CoreEvent.{CoreEvent}
 use Rattle.bv_model.specs.declared.map_change.MapChange.{MapChange}
 use Rattle.bv_model.specs.declared.map_change.MapChange.TheVariants.{Publish}
 use Rattle.bv_model.specs.declared.place.Place.{Place}
 use Rattle.bv_model.specs.declared.reply.Reply.{Reply}
-use Rattle.bv_model.specs.declared.reply.Reply.TheVariants.{Granted, Admitted, Published, Opened, Closed, Unlinked, Synced, Unmounted, Stopped, DeviceFault}
+use Rattle.bv_model.specs.declared.reply.Reply.TheVariants.{Granted, Admitted, Published, Opened, Closed, Unlinked, Synced, Unmounted, DeviceFault}
 use Rattle.bv_model.specs.declared.room.Taken.{Taken}
 use Rattle.bv_model.specs.declared.setting.Setting.{Setting}
 use Rattle.bv_model.specs.declared.who.Who.{Who}

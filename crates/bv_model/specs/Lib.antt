@@ -1,6 +1,7 @@
 pub mod Change
 pub mod Choice
 pub mod Core
+pub mod Deeds
 pub mod History
 pub mod Kept
 pub mod Laws

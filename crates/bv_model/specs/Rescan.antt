@@ -1,24 +1,18 @@
--- What one event does at a place, to a root, and to how many there are: the steps of the calls that
+-- What one deed does at a place, to a root, and to how many there are: the steps of the calls that
 -- go over a history without memory, each proved to be the core's own.
 use Rattle.std.specs.Prelude.{ℕ, Bool, true, false, cond, not, ◌+◌, ◌-◌, ◌==◌, ◌&&◌, ◌||◌, Option, Some, None, take}
 use Rattle.std.specs.Ordering.{eq_by_cmp}
 use Rattle.spec_tree.specs.declared.Digest.{Digest}
 use Rattle.spec_tree.specs.Order.{same_digest}
-use Rattle.bv_model.specs.Choice.{place_of}
 use Rattle.bv_model.specs.History.{History, setting_of, opening_map, first_state, Legal}
 use Rattle.bv_model.specs.Order.{place_cmp}
 use Rattle.bv_model.specs.State.{State, among, held, holders}
 use Rattle.bv_model.specs.Step.{state_after}
-use Rattle.bv_model.specs.declared.act.Act.{Act}
-use Rattle.bv_model.specs.declared.act.Act.TheVariants.{Settle, Open, Close, Unlink, Sync, Unmount}
 use Rattle.bv_model.specs.declared.deed.Deed.{Deed}
-use Rattle.bv_model.specs.declared.deed.Deed.TheVariants.{Nothing, Opens, Closes, Unlinks, Publishes, Purges, Empties}
+use Rattle.bv_model.specs.declared.deed.Deed.TheVariants.{Opens, Closes, Unlinks, Publishes, Purges, Empties}
 use Rattle.bv_model.specs.declared.place.Place.{Place}
-use Rattle.bv_model.specs.declared.reply.Reply.{Reply}
-use Rattle.bv_model.specs.declared.reply.Reply.TheVariants.{Published, Opened, Closed, Unlinked, Synced, Unmounted, DeviceFault}
 use Rattle.bv_model.specs.declared.rescan.Lengths.{Lengths}
 use Rattle.bv_model.specs.declared.rescan.Standing.{Standing}
-use Rattle.bv_model.specs.declared.who.Who.{Who}
 
 -- the state after the first so many events of a history
 abbrev pub state_at : History → ℕ → ℕ → State
@@ -27,58 +21,6 @@ state_at h next count = state_after (setting_of h) (first_state (opening_map h) 
 -- in a legal history, this holds after the first so many events
 abbrev pub After : History → ℕ → (State → Type 0) → Type 0
 After h count Holds = (next : ℕ) → Legal h next → Holds (state_at h next count)
-
--- ---- what an event does
-
-abbrev pub settle_deed : Digest → Reply → Deed
-settle_deed r Published = Publishes r
-settle_deed r _ = Nothing
-
-abbrev pub open_deed : Place → Digest → Reply → Deed
-open_deed p r (Opened n) = Opens p r
-open_deed p r _ = Nothing
-
-abbrev pub close_deed : Place → Reply → Deed
-close_deed p Closed = Closes p
-close_deed p _ = Nothing
-
-abbrev pub unlink_deed : Digest → Reply → Deed
-unlink_deed r Unlinked = Unlinks r
-unlink_deed r _ = Nothing
-
-abbrev pub sync_deed : Reply → Deed
-sync_deed Synced = Purges
-sync_deed _ = Nothing
-
-abbrev pub unmount_deed : Reply → Deed
-unmount_deed Unmounted = Empties true
-unmount_deed _ = Empties false
-
-abbrev pub deed_of : Who → Act → Reply → Deed
-deed_of who (Settle r) reply = settle_deed r reply
-deed_of who (Open slot r) reply = open_deed (place_of who slot) r reply
-deed_of who (Close slot) reply = close_deed (place_of who slot) reply
-deed_of who (Unlink r) reply = unlink_deed r reply
-deed_of who Sync reply = sync_deed reply
-deed_of who Unmount reply = unmount_deed reply
-deed_of who _ reply = Nothing
-
--- the reply tells that a write or sync failed
-abbrev pub is_failure : Reply → Bool
-is_failure (DeviceFault f) = true
-is_failure _ = false
-
--- the device failed while an entry was written
-abbrev pub fails : Act → Reply → Bool
-fails (Settle r) reply = is_failure reply
-fails Sync reply = is_failure reply
-fails Unmount reply = is_failure reply
-fails _ reply = false
-
--- how many blobs the entry of an event publishes
-abbrev pub published_by : Act → ℕ
-published_by (Settle r) = 1
-published_by _ = 0
 
 -- ---- what a place holds
 

@@ -6,7 +6,8 @@ use Rattle.spec_tree.specs.Tree.{need_of}
 use Rattle.spec_tree.specs.declared.Digest.{Digest}
 use Rattle.spec_tree.specs.declared.blob.Blob.{Blob}
 use Rattle.spec_tree.specs.Order.{same_digest}
-use Rattle.bv_model.specs.Rescan.{deed_of, fails, goes_with}
+use Rattle.bv_model.specs.Deeds.{deed_of, fails}
+use Rattle.bv_model.specs.Rescan.{goes_with}
 use Rattle.bv_model.specs.Room.{blob_need}
 use Rattle.bv_model.specs.State.{State, find, held}
 use Rattle.bv_model.specs.declared.act.Act.{Act}

@@ -1,7 +1,7 @@
 //! What an event does to the slots and to the blobs.
 
 ghost use Rattle.std.specs.Prelude.{◌≡◌, ◌≤◌};
-ghost use Rattle.bv_model.specs.Rescan as C;
+ghost use Rattle.bv_model.specs.Deeds as C;
 
 use crate::act::Act;
 use crate::choosing::place_of;
