@@ -6,12 +6,14 @@ use Rattle.std.specs.BTreeMap.{is_at}
 use Rattle.std.specs.BTreeSet.{insert_key}
 use Rattle.std.specs.Map.{remove_entry}
 use Rattle.std.specs.Set.{remove_key}
+use Rattle.std.proofs.Math.Bool.{or-true}
+use Rattle.std.proofs.lemmas.List.Folds.{list_any-append}
 use Rattle.std.proofs.lemmas.List.Sums.{sum_by-append}
 use Rattle.std.proofs.lemmas.Map.Made.{length-remove_key}
 use Rattle.spec_tree.specs.declared.Digest.{Digest}
 use Rattle.spec_tree.specs.declared.blob.Blob.{Blob}
 use Rattle.spec_tree.specs.Order.{digest_cmp, same_digest}
-use Rattle.bv_model.proofs.Counting.{count-cons, count-insert_key-le, count-remove_key, length-insert_key}
+use Rattle.bv_model.proofs.Counting.{count-cons, count-insert_key-le, count-remove_key, length-insert_key, any-insert_key}
 use Rattle.bv_model.proofs.Deeds.{by_deed, alike, Alike, ready, deed_stopped, Ready, failing, was_going}
 use Rattle.bv_model.proofs.EntryLemmas.{lookup-insert_entry, lookup-remove_other}
 use Rattle.bv_model.proofs.Holding.{digest_total, one_digest, changed-append, find-purges}
@@ -19,7 +21,7 @@ use Rattle.bv_model.proofs.Rescans.{same_self, not_among, is_held_by_count, less
 use Rattle.bv_model.specs.Change.{change, let_go, emptied, unlinked, slots_emptied}
 use Rattle.bv_model.specs.Choice.{choice}
 use Rattle.bv_model.specs.History.{History, setting_of, opening_map, first_state, last_state, Legal}
-use Rattle.bv_model.specs.Laws.{UnlinkedRootsStay, QueueIsPurged}
+use Rattle.bv_model.specs.Laws.{UnlinkedRootsLeave, UnlinkedRootsStay, QueueIsPurged}
 use Rattle.bv_model.specs.Log.{changed, purges, purge_of, without, queued, flushed}
 use Rattle.bv_model.specs.Order.{place_cmp}
 use Rattle.bv_model.specs.Deeds.{deed_of, fails, published_by}
@@ -27,6 +29,7 @@ use Rattle.bv_model.specs.Rescan.{state_at, standing_for, standing_of_root, all_
 use Rattle.bv_model.specs.State.{State, find, among, held, holders, is_held, is_unlinked}
 use Rattle.bv_model.specs.Step.{Chosen, Fits, after, state_after, Steps}
 use Rattle.bv_model.specs.declared.act.Act.{Act}
+use Rattle.bv_model.specs.declared.act.Act.TheVariants.{Unlink}
 use Rattle.bv_model.specs.declared.deed.Deed.{Deed}
 use Rattle.bv_model.specs.declared.deed.Deed.TheVariants.{Nothing, Opens, Closes, Unlinks, Publishes, Purges, Empties}
 use Rattle.bv_model.specs.declared.event.CoreEvent.{CoreEvent}
@@ -272,6 +275,16 @@ lengths_more h next i d t failed b legal short e n =
     rw (state_more h next i d short) (follows_change (setting_of h) (state_at h next i) t failed event.who event.act event.reply b (once_at h next i legal) (fits_at h next legal i d short) n e)
 
 -- ---- laws
+
+pub unlinked_roots_leave : UnlinkedRootsLeave
+unlinked_roots_leave g s t w r calls step = rw step.1 (go (is_held s.slots r))
+  where
+    apart : among s.leaving r ≡ false
+    apart = (ready g s w (Unlink r) Unlinked step.0).1
+
+    go : (b : Bool) → is_unlinked (cond b (record s { leaving = insert_key digest_cmp s.leaving r }) (record s { queue = s.queue ++ r ∷ [] })) r ≡ true
+    go true = rw (any-insert_key (same_digest r) digest_cmp s.leaving r apart, same_self r) refl
+    go false = rw (list_any-append (same_digest r) s.queue (r ∷ []), same_self r, or-true (among s.queue r), or-true (among s.leaving r)) refl
 
 pub unlinked_roots_stay : UnlinkedRootsStay
 unlinked_roots_stay h next r legal = rw (times-append r (last_state h next).queue (last_state h next).leaving) (once_last h next legal r)

@@ -6,14 +6,15 @@ use Rattle.spec_tree.specs.Order.{same_digest}
 use Rattle.bv_model.specs.Choice.{choice, is_empty, place_of}
 use Rattle.bv_model.specs.History.{History, opening_map, last_state, room, Legal, FromEachToNext}
 use Rattle.bv_model.specs.Log.{changed, queued}
-use Rattle.bv_model.specs.State.{State, find, held, among, is_held}
+use Rattle.bv_model.specs.State.{State, find, held, among, is_held, is_unlinked}
 use Rattle.bv_model.specs.Step.{Chosen, Fits, Step, after}
 use Rattle.bv_model.specs.Synced.{log_lengths, synced_by, logged_by, tells_durable, fault_of}
 use Rattle.bv_model.specs.declared.act.Act.{Act}
-use Rattle.bv_model.specs.declared.act.Act.TheVariants.{Admit, Settle, Close, Unmount}
+use Rattle.bv_model.specs.declared.act.Act.TheVariants.{Admit, Settle, Close, Unlink, Unmount}
 use Rattle.bv_model.specs.declared.event.CoreEvent.{CoreEvent}
 use Rattle.bv_model.specs.declared.place.Place.{Place}
 use Rattle.bv_model.specs.declared.reply.Reply.{Reply}
+use Rattle.bv_model.specs.declared.reply.Reply.TheVariants.{Unlinked}
 use Rattle.bv_model.specs.declared.setting.Setting.{Setting}
 use Rattle.bv_model.specs.declared.who.Who.{Who}
 
@@ -69,11 +70,19 @@ LogMakesMap =
 -- a root that a slot holds is in the map, and isn't queued to be purged
 abbrev pub HeldRootsStay : Type 0
 HeldRootsStay =
-    (h : History) (next : ℕ) (r : Digest) → Legal h next → is_held (last_state h next).slots r ≡ true
-    → (is_some (find (last_state h next).map r) ≡ true) × (among (last_state h next).queue r ≡ false)
+    (h : History) (next : ℕ) (r : Digest) → Legal h next
+    → is_held (last_state h next).slots r ≡ true
+    → (is_some (find (last_state h next).map r) ≡ true)
+    × (among (last_state h next).queue r ≡ false)
 
--- a root that was unlinked and isn't purged is once in the queue or among those that leave, and in
--- the map
+-- a root that an event has unlinked leaves or is queued
+abbrev pub UnlinkedRootsLeave : Type 0
+UnlinkedRootsLeave =
+    (g : Setting) (old new : State) (who : Who) (r : Digest) (calls : ℕ)
+    → Step g old (record { who = who; act = Unlink r; reply = Unlinked; calls = calls }) new
+    → is_unlinked new r ≡ true
+
+-- a root stands at most once among those that are queued or leave, and only while it is in the map
 abbrev pub UnlinkedRootsStay : Type 0
 UnlinkedRootsStay =
     (h : History) (next : ℕ) (r : Digest) → Legal h next

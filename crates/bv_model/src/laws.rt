@@ -1,6 +1,6 @@
 //! Laws of the core: what each function here ensures holds of all states and histories.
 
-ghost use Rattle.bv_model.specs.Laws.{OneNewState, OneReply, SomeReply, RoomIsBounded, NumbersAreApart, LogMakesMap, HeldRootsStay, UnlinkedRootsStay, QueueIsPurged, SlotsStay, SyncedIsLogged};
+ghost use Rattle.bv_model.specs.Laws.{OneNewState, OneReply, SomeReply, RoomIsBounded, NumbersAreApart, LogMakesMap, HeldRootsStay, UnlinkedRootsLeave, UnlinkedRootsStay, QueueIsPurged, SlotsStay, SyncedIsLogged};
 
 /// With the reply given, an event leads to one new state.
 pub fn a_reply_fixes_the_new_state()
@@ -38,7 +38,12 @@ pub fn held_roots_stay_in_the_map()
     ensures { HeldRootsStay }
 {}
 
-/// A root that was unlinked is queued or leaving once, and in the map until it is purged.
+/// A root that an event has unlinked leaves or is queued.
+pub fn unlinked_roots_leave_or_are_queued()
+    ensures { UnlinkedRootsLeave }
+{}
+
+/// A root is queued or leaves at most once, and only while it is in the map.
 pub fn unlinked_roots_stay_in_the_map()
     ensures { UnlinkedRootsStay }
 {}
