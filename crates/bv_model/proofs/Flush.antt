@@ -1,10 +1,11 @@
 -- A flush, root by root.
 use Rattle.std.proofs.Common.{◌≡◌, ℕ, ◌+◌, ◌<◌, Bool, true, false, cond, Option, None, Some, List, [], ◌∷◌, ◌++◌, length, drop, get_or, refl, ap, sym, ◌∙◌, append_assoc, drop-cons, add-one}
+use Rattle.std.proofs.lemmas.List.{append-nil}
 use Rattle.std.specs.Map.{lookup, remove_entry}
 use Rattle.spec_tree.specs.declared.Digest.{Digest}
 use Rattle.std.specs.BTreeMap.{insert_entry, is_at}
 use Rattle.bv_model.proofs.Holding.{changed-append}
-use Rattle.bv_model.specs.Log.{changed, purges, purge_of, without, queued, flushed, failed}
+use Rattle.bv_model.specs.Log.{changed, purges, purge_of, without, queued, flushed}
 use Rattle.spec_tree.specs.Order.{digest_cmp}
 use Rattle.bv_model.specs.State.{State, find}
 use Rattle.spec_tree.specs.declared.blob.Blob.{Blob}
@@ -32,8 +33,5 @@ changed_step m rs i d h = ap (changed m) (purges_step m rs i d h) ∙ changed_by
 pub published_state : (s : State) (r : Digest) (b : Blob) (n : ℕ) → record s { log = (s.log ++ queued s) ++ Publish r b ∷ []; map = insert_entry digest_cmp (changed s.map (queued s)) r b; queue = []; next = n } ≡ record (flushed s (Publish r b ∷ [])) { next = n }
 published_state s r b n = rw (append_assoc s.log (queued s) (Publish r b ∷ []), changed-append s.map (queued s) (Publish r b ∷ [])) refl
 
-pub failed_state : (s : State) (r : Digest) (b : Blob) (f : ℕ) → record s { log = (s.log ++ queued s) ++ Publish r b ∷ []; stopped = Some f } ≡ failed s (Publish r b ∷ []) f
-failed_state s r b f = rw (append_assoc s.log (queued s) (Publish r b ∷ [])) refl
-
-pub publish_onto : (s t : State) (r : Digest) (b : Blob) → t ≡ record s { log = s.log ++ queued s; map = changed s.map (queued s); queue = [] } → record t { map = insert_entry digest_cmp t.map r b; log = t.log ++ Publish r b ∷ []; next = t.next + 1 } ≡ record (flushed s (Publish r b ∷ [])) { next = s.next + 1 }
-publish_onto s t r b h = rw h (published_state s r b (s.next + 1))
+pub publish_onto : (s t : State) (r : Digest) (b : Blob) → t ≡ flushed s [] → record t { map = insert_entry digest_cmp t.map r b; log = t.log ++ Publish r b ∷ []; next = t.next + 1 } ≡ record (flushed s (Publish r b ∷ [])) { next = s.next + 1 }
+publish_onto s t r b h = rw (h, append-nil (queued s)) (published_state s r b (s.next + 1))

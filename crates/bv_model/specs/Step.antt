@@ -1,17 +1,15 @@
 -- One step of the core: the reply is one that may come, and the new state is the change (this
 -- project's profile).
-use Rattle.std.specs.Prelude.{◌≡◌, ℕ, ◌<◌, ◌≤◌, ◌⊎◌, List, [], ◌∷◌, Option, Some, None}
+use Rattle.std.specs.Prelude.{◌≡◌, ℕ, ◌<◌, ◌≤◌, ◌⊎◌, List, [], ◌∷◌}
 use Rattle.bv_model.specs.Change.{change}
 use Rattle.bv_model.specs.Choice.{choice}
 use Rattle.bv_model.specs.State.{State}
-use Rattle.bv_model.specs.declared.act.Act.{Act}
 use Rattle.bv_model.specs.declared.choice.Choice.{Choice}
 use Rattle.bv_model.specs.declared.choice.Choice.TheVariants.{Only, Writes, Reads, Nodes, Never}
 use Rattle.bv_model.specs.declared.event.CoreEvent.{CoreEvent}
 use Rattle.bv_model.specs.declared.reply.Reply.{Reply}
 use Rattle.bv_model.specs.declared.reply.Reply.TheVariants.{Admitted, NoNodes, DeviceFault, ReadFault}
 use Rattle.bv_model.specs.declared.setting.Setting.{Setting}
-use Rattle.bv_model.specs.declared.who.Who.{Who}
 
 -- the reply no-nodes: more nodes are needed than are free, by numbers within these bounds
 abbrev pub IsNoNodes : ℕ → ℕ → Reply → Type 0
@@ -37,11 +35,6 @@ after g s e = change g s e.who e.act e.reply
 -- Step: the table has a row with this event, whose change leads from the old state to the new one
 abbrev pub Step : Setting → State → CoreEvent → State → Type 0
 Step g old e new = Fits g old e × (new ≡ after g old e)
-
--- a call that makes an event, or with no reply (for want of memory) none and no change
-abbrev pub Moves : Setting → State → State → Who → Act → Option Reply → Type 0
-Moves g old new who act None = new ≡ old
-Moves g old new who act (Some reply) = Chosen (choice g old who act) reply × (new ≡ change g old who act reply)
 
 -- the state after these events
 abbrev pub state_after : Setting → State → List CoreEvent → State

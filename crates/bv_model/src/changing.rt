@@ -5,7 +5,7 @@
 ghost use Rattle.std.specs.Prelude.{◌≡◌, ◌+◌, ◌<◌, ◌^◌, [], ◌∷◌, ◌++◌, OnOk, Some};
 ghost use Rattle.bv_model.specs.Change as C;
 ghost use Rattle.bv_model.specs.Choice as W;
-ghost use Rattle.bv_model.specs.Core.{purged, purges_logged, with_blob};
+ghost use Rattle.bv_model.specs.Core.{with_blob};
 ghost use Rattle.bv_model.specs.Log as L;
 ghost use Rattle.bv_model.specs.State as S;
 
@@ -46,7 +46,7 @@ impl Machine {
     /// The queue is purged.
     fn flush(&mut self) -> Result<(), AllocError>
         ensures setting { OnOk result (self.new.setting ≡ self.old.setting) }
-        ensures state { OnOk result (self.new.state ≡ purged self.old.state) }
+        ensures state { OnOk result (self.new.state ≡ L.flushed self.old.state []) }
     {
         purge_all(&mut self.map, &mut self.log, &self.queue)?;
         self.queue.clear();
@@ -56,7 +56,7 @@ impl Machine {
     /// A device that failed leaves the queue's purges in the log, and the core stopped.
     fn fail(&mut self, fault: u64) -> Result<(), AllocError>
         ensures setting { OnOk result (self.new.setting ≡ self.old.setting) }
-        ensures state { OnOk result (self.new.state ≡ purges_logged self.old.state fault) }
+        ensures state { OnOk result (self.new.state ≡ L.failed self.old.state [] fault) }
     {
         log_purges(&self.map, &mut self.log, &self.queue)?;
         self.stopped = Some(fault);

@@ -1,7 +1,7 @@
 //! Whether an event is a step of the core, and the state after it.
 
 ghost use Rattle.std.specs.Prelude.{◌≡◌, ℕ, ◌+◌, ◌<◌, ◌≤◌, ◌^◌, IfOk, length};
-ghost use Rattle.bv_model.specs.Core.{Steps};
+ghost use Rattle.bv_model.specs.Core.{StepsOrStays};
 
 use crate::choosing::is_chosen;
 use crate::event::CoreEvent;
@@ -13,7 +13,7 @@ use std::alloc::AllocError;
 /// After want of memory the core may have a part of the change.
 pub fn step_of(core: &mut Machine, event: &CoreEvent) -> Result<bool, AllocError>
     requires { core.old.state.next < 2 ^ 63 }
-    ensures step { IfOk result (λ is_step. Steps core.old core.new event.now is_step) }
+    ensures step { IfOk result (λ is_step. StepsOrStays core.old core.new event.now is_step) }
 {
     if !is_chosen(core.choice(event.who, event.act), event.reply) {
         return Ok(false);

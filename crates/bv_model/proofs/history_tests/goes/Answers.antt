@@ -2,7 +2,7 @@ use Rattle.std.proofs.Common.{◌≡◌, ◌∙◌, ℕ, true, List, [], ◌∷�
 use Rattle.std.specs.List.{All}
 use Rattle.std.proofs.lemmas.List.Elements.{All-head, All-tail, All-push}
 use Rattle.bv_model.proofs.Histories.{last_calls, Legal-with_event, last_state-with_event}
-use Rattle.bv_model.specs.Core.{Core, Steps}
+use Rattle.bv_model.specs.Core.{Core, StepsOrStays}
 use Rattle.bv_model.specs.History.{History, Legal, setting_of, last_state, with_event}
 use Rattle.bv_model.specs.State.{State}
 use Rattle.bv_model.specs.Step.{Fits, after}
@@ -14,7 +14,7 @@ no_calls : (n : ℕ) (es : List CoreEvent) → n ≡ 0 → All (λ e. e.calls �
 no_calls n [] h a = h
 no_calls n (e ∷ es) h a = no_calls e.calls es (All-head (λ e. e.calls ≡ 0) e es a) (All-tail (λ e. e.calls ≡ 0) e es a)
 
-module _ (core new : Core) (h : History) (e : CoreEvent) (step : Steps core new e true) (legal : Legal h 1) (none : All (λ e. e.calls ≡ 0) h.events) (same : core.setting ≡ setting_of h) (state : core.state ≡ last_state h 1) (calls : e.calls ≡ 0) where
+module _ (core new : Core) (h : History) (e : CoreEvent) (step : StepsOrStays core new e true) (legal : Legal h 1) (none : All (λ e. e.calls ≡ 0) h.events) (same : core.setting ≡ setting_of h) (state : core.state ≡ last_state h 1) (calls : e.calls ≡ 0) where
   fits : Fits (setting_of h) (last_state h 1) e
   fits = subst (λ (s : State). Fits (setting_of h) s e) state (subst (λ (g : Setting). Fits g core.state e) same step.1.0)
 
