@@ -41,6 +41,8 @@ pub use step::step_of;
 pub use who::Who;
 
 #[cfg(test)]
+mod ending_tests;
+#[cfg(test)]
 mod history_tests;
 #[cfg(test)]
 mod tests;

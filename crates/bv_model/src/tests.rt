@@ -5,17 +5,29 @@ use spec_tree::Digest;
 use std::process::Abort;
 use std::test::Fail;
 
-const A: Digest = Digest([1; 32]);
+pub(crate) const A: Digest = Digest([1; 32]);
 
-const B: Digest = Digest([2; 32]);
+pub(crate) const B: Digest = Digest([2; 32]);
 
-const C: Digest = Digest([3; 32]);
+pub(crate) const C: Digest = Digest([3; 32]);
 
 /// A block, in bytes.
-const BLOCK: u64 = 8192;
+pub(crate) const BLOCK: u64 = 8192;
+
+pub(crate) const BEGIN_A: Act = Act::Begin {
+    root: A,
+    size: BLOCK,
+};
+
+/// A volume with room for fifteen blocks of blobs.
+pub(crate) const SMALL: Setting = Setting {
+    blocks: 16,
+    nodes: 4,
+    version: 1,
+};
 
 /// An event, and whether it is a step after those before it.
-struct Row(Act, Reply, bool);
+pub(crate) struct Row(pub(crate) Act, pub(crate) Reply, pub(crate) bool);
 
 /// One blob is published, after each refusal of an add.
 const ADDS: [Row; 24] = [
@@ -25,30 +37,9 @@ const ADDS: [Row; 24] = [
     Row(Act::Scan { slot: 0 }, Reply::BadSlot, true),
     Row(Act::Admit { root: A }, Reply::Admitted, false),
     Row(Act::Settle { root: A }, Reply::Published, false),
-    Row(
-        Act::Begin {
-            root: A,
-            size: BLOCK,
-        },
-        Reply::Exists,
-        false,
-    ),
-    Row(
-        Act::Begin {
-            root: A,
-            size: BLOCK,
-        },
-        Reply::Granted,
-        true,
-    ),
-    Row(
-        Act::Begin {
-            root: A,
-            size: BLOCK,
-        },
-        Reply::InFlight,
-        true,
-    ),
+    Row(BEGIN_A, Reply::Exists, false),
+    Row(BEGIN_A, Reply::Granted, true),
+    Row(BEGIN_A, Reply::InFlight, true),
     Row(
         Act::Begin {
             root: B,
@@ -103,19 +94,12 @@ const ADDS: [Row; 24] = [
     Row(Act::Put { index: 0 }, Reply::Written, true),
     Row(Act::Unmount, Reply::Unmounted, false),
     Row(Act::Settle { root: A }, Reply::Published, true),
-    Row(
-        Act::Begin {
-            root: A,
-            size: BLOCK,
-        },
-        Reply::Exists,
-        true,
-    ),
+    Row(BEGIN_A, Reply::Exists, true),
     Row(Act::List, Reply::Listed { count: 1 }, true),
 ];
 
 /// A slot holds the blob while it is unlinked.
-const SLOTS: [Row; 14] = [
+const SLOTS: [Row; 16] = [
     Row(
         Act::Open { slot: 0, root: A },
         Reply::Opened { size: 1 },
@@ -136,6 +120,16 @@ const SLOTS: [Row; 14] = [
         Reply::Reading,
         true,
     ),
+    Row(
+        Act::Read {
+            slot: 1,
+            off: 0,
+            len: 9,
+        },
+        Reply::BadSlot,
+        true,
+    ),
+    Row(Act::Scan { slot: 0 }, Reply::Reading, true),
     Row(Act::Fetch { slot: 0, window: 0 }, Reply::Fetched, true),
     Row(
         Act::Fetch { slot: 0, window: 0 },
@@ -145,25 +139,11 @@ const SLOTS: [Row; 14] = [
     Row(Act::Unlink { root: A }, Reply::Unlinked, true),
     Row(Act::Unlink { root: A }, Reply::NotFound, true),
     Row(Act::Open { slot: 1, root: A }, Reply::NotFound, true),
-    Row(
-        Act::Begin {
-            root: A,
-            size: BLOCK,
-        },
-        Reply::Leaving { handles: 1 },
-        true,
-    ),
+    Row(BEGIN_A, Reply::Leaving { handles: 1 }, true),
     Row(Act::List, Reply::Listed { count: 1 }, false),
     Row(Act::List, Reply::Listed { count: 0 }, true),
     Row(Act::Close { slot: 0 }, Reply::Closed, true),
-    Row(
-        Act::Begin {
-            root: A,
-            size: BLOCK,
-        },
-        Reply::Leaving { handles: 0 },
-        true,
-    ),
+    Row(BEGIN_A, Reply::Leaving { handles: 0 }, true),
 ];
 
 /// A sync frees the blocks of a purge; then the numbers end, and the device fails.
@@ -219,7 +199,8 @@ const ENDS: [Row; 20] = [
     Row(Act::Unmount, Reply::Stopped { fault: 3 }, true),
 ];
 
-fn goes_as_said<R: Abort>(
+/// Each row's event is a step of the core where the row says so, and else changes nothing.
+pub(crate) fn goes_as_said<R: Abort>(
     rt: &R,
     core: &mut Machine,
     name: &str,
@@ -243,12 +224,7 @@ fn goes_as_said<R: Abort>(
 
 #[test]
 fn each_event_is_a_step_exactly_where_the_table_has_its_row(rt: HostRuntime) -> Result<(), Fail> {
-    let setting = Setting {
-        blocks: 16,
-        nodes: 4,
-        version: 1,
-    };
-    let mut core = Machine::new(rt.alloc(), setting, (1 << 62) - 2);
+    let mut core = Machine::new(rt.alloc(), SMALL, (1 << 62) - 2);
     goes_as_said(&rt, &mut core, "adds", &ADDS)?;
     goes_as_said(&rt, &mut core, "slots", &SLOTS)?;
     goes_as_said(&rt, &mut core, "ends", &ENDS)?;
