@@ -2,7 +2,7 @@
 --
 -- | event, reply                  | change                                                     |
 -- |-------------------------------|------------------------------------------------------------|
--- | begin, granted                | the adds gain the root                                     |
+-- | begin, granted                | the adds gain the root with its size                       |
 -- | admit, stopped or no-nodes    | the add ends                                               |
 -- | put, device-fault             | stopped                                                    |
 -- | settle, published             | flush; log and map gain the blob; next rises; the add ends |
@@ -55,7 +55,7 @@ abbrev pub put_done : State → Reply → State
 put_done s (DeviceFault f) = record s { stopped = Some f }
 put_done s _ = s
 
--- the blob of an add of this size: it gets the volume's version
+-- the blob of an add of this size, with the volume's version (size 0 comes only without an add)
 abbrev pub blob_of : Setting → Option ℕ → Blob
 blob_of g (Some n) = record { size = n; version = g.version }
 blob_of g None = record { size = 0; version = g.version }
@@ -119,7 +119,7 @@ unmount_done s Unmounted = made_durable s
 unmount_done s (DeviceFault f) = failed s [] f
 unmount_done s _ = s
 
--- the state after an event with this reply
+-- the state after an event with this reply (of a reply outside the choice it says nothing)
 abbrev pub change : Setting → State → Who → Act → Reply → State
 change g s who (Begin r n) reply = begun s r n reply
 change g s who (Admit r) reply = admitted s r reply

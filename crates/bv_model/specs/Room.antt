@@ -12,7 +12,7 @@ use Rattle.bv_model.specs.declared.map_change.MapChange.{MapChange}
 use Rattle.bv_model.specs.declared.map_change.MapChange.TheVariants.{Publish, Purge}
 use Rattle.bv_model.specs.declared.setting.Setting.{Setting}
 
--- the blocks of a blob
+-- the blocks of a blob (a version other than 1 or 2 counts as 1)
 abbrev pub blob_need : Blob → ℕ
 blob_need blob = need_of blob.version blob.size
 
@@ -31,7 +31,8 @@ taken g s =
 abbrev pub room_in : Setting → State → ℕ
 room_in g s = g.blocks - 1 - taken g s
 
--- the most nodes that a blob can take: as if each block were an extent
+-- the most nodes that a blob can take: as if each block were an extent (a version other than 1 or 2
+-- counts as 1)
 abbrev pub worst_nodes : ℕ → ℕ → ℕ
 worst_nodes version size = nodes_for (need_of version size)
 
