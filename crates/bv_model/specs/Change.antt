@@ -62,7 +62,8 @@ blob_of g None = record { size = 0; version = g.version }
 
 -- rows published, device-fault, and stopped and number-end of settle
 abbrev pub settled : State → Digest → Blob → Reply → State
-settled s r blob Published = record (add_ends (flushed s (Publish r blob ∷ [])) r) { next = s.next + 1 }
+settled s r blob Published =
+    record (add_ends (flushed s (Publish r blob ∷ [])) r) { next = s.next + 1 }
 settled s r blob (DeviceFault f) = add_ends (failed s (Publish r blob ∷ []) f) r
 settled s r blob _ = add_ends s r
 

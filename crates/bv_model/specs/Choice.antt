@@ -57,7 +57,8 @@ begin_choice g s r n =
     cond (is_some (present s r)) (Only Exists)
     (cond (is_unlinked s r) (Only (Leaving (holders s.slots r)))
     (cond (is_some (find s.adds r)) (Only InFlight)
-    (cond (nat_lt (room_in g s) (need_of g.version n)) (Only (NoSpace (need_of g.version n) (room_in g s)))
+    (cond (nat_lt (room_in g s) (need_of g.version n))
+    (Only (NoSpace (need_of g.version n) (room_in g s)))
     (Only Granted))))
 
 -- rows no-nodes and admitted of admit
@@ -89,14 +90,17 @@ is_empty (x ∷ xs) = false
 
 -- rows number-end, device-fault and synced (or unmounted) of sync, with this queue
 abbrev pub sync_choice : State → List Digest → Reply → Choice
-sync_choice s queue done = cond (not (is_empty queue) && at_number_end s) (Only NumberEnd) (Writes done)
+sync_choice s queue done =
+    cond (not (is_empty queue) && at_number_end s) (Only NumberEnd) (Writes done)
 
 -- the replies that may come
 abbrev pub choice : Setting → State → Who → Act → Choice
 choice g s who (Begin r n) = unless_stopped s.stopped (begin_choice g s r n)
-choice g s who (Admit r) = if_added (find s.adds r) (λ n. unless_stopped s.stopped (admit_choice g s r n))
+choice g s who (Admit r) =
+    if_added (find s.adds r) (λ n. unless_stopped s.stopped (admit_choice g s r n))
 choice g s who (Put index) = unless_stopped s.stopped (Writes Written)
-choice g s who (Settle r) = if_added (find s.adds r) (λ n. unless_stopped s.stopped (settle_choice s))
+choice g s who (Settle r) =
+    if_added (find s.adds r) (λ n. unless_stopped s.stopped (settle_choice s))
 choice g s who (Retire r) = Only Retired
 choice g s who (Open slot r) = open_choice (present s r) (held s.slots (place_of who slot))
 choice g s who (Fetch slot window) = unless_empty (held s.slots (place_of who slot)) (Reads Fetched)
@@ -107,4 +111,6 @@ choice g s who (Unlink r) = unless_stopped s.stopped (unlink_choice s r)
 choice g s who Sync = unless_stopped s.stopped (sync_choice s s.queue Synced)
 choice g s who ListAll = Only (Listed (count_present s))
 choice g s who Unmount =
-    cond (is_empty s.adds) (unless_stopped s.stopped (sync_choice s (s.queue ++ s.leaving) Unmounted)) Never
+    cond (is_empty s.adds)
+    (unless_stopped s.stopped (sync_choice s (s.queue ++ s.leaving) Unmounted))
+    Never

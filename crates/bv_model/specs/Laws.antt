@@ -1,5 +1,5 @@
 -- What the rules mean together: each statement is the contract of a function of `laws`.
-use Rattle.std.specs.Prelude.{◌≡◌, ℕ, true, false, ◌-◌, ◌<◌, ◌≤◌, ◌⊎◌, cond, List, [], ◌∷◌, ◌++◌, length, Some, None, is_some, IsTrue}
+use Rattle.std.specs.Prelude.{◌≡◌, ℕ, true, false, ◌-◌, ◌<◌, ◌≤◌, ◌⊎◌, cond, ◌++◌, length, Some, None, is_some, IsTrue}
 use Rattle.std.specs.List.{count_by}
 use Rattle.spec_tree.specs.declared.Digest.{Digest}
 use Rattle.spec_tree.specs.Order.{same_digest}
@@ -22,7 +22,9 @@ use Rattle.bv_model.specs.declared.who.Who.{Who}
 
 -- with the reply given, there is one new state
 abbrev pub OneNewState : Type 0
-OneNewState = (g : Setting) (old new other : State) (e : CoreEvent) → Step g old e new → Step g old e other → new ≡ other
+OneNewState =
+    (g : Setting) (old new other : State) (e : CoreEvent)
+    → Step g old e new → Step g old e other → new ≡ other
 
 -- the state leaves the reply open: to an admit, while no write or sync has failed
 abbrev pub IsOpen : State → Act → Type 0
@@ -48,7 +50,8 @@ MayCome s _ = Unit {0}
 abbrev pub SomeReply : Type 0
 SomeReply =
     (g : Setting) (s : State) (who : Who) (act : Act) (calls : ℕ) → MayCome s act
-    → (reply : Reply) × (new : State) × Step g s (record { who = who; act = act; reply = reply; calls = calls }) new
+    → (reply : Reply) × (new : State)
+    × Step g s (record { who = who; act = act; reply = reply; calls = calls }) new
 
 -- ---- histories
 
@@ -59,7 +62,8 @@ RoomIsBounded = (h : History) → (0 ≤ room h) × (room h ≤ h.blocks - 1)
 -- the number of the first entry has a part only in the number of the next one
 abbrev pub NumbersAreApart : Type 0
 NumbersAreApart =
-    (h : History) (next : ℕ) → last_state h next ≡ record (last_state h 0) { next = (last_state h next).next }
+    (h : History) (next : ℕ)
+    → last_state h next ≡ record (last_state h 0) { next = (last_state h next).next }
 
 -- while no write or sync failed, the map is the opening changed by the log
 abbrev pub LogMakesMap : Type 0
@@ -86,11 +90,14 @@ UnlinkedRootsLeave =
 abbrev pub UnlinkedRootsStay : Type 0
 UnlinkedRootsStay =
     (h : History) (next : ℕ) (r : Digest) → Legal h next
-    → count_by (same_digest r) ((last_state h next).queue ++ (last_state h next).leaving) ≤ cond (is_some (find (last_state h next).map r)) 1 0
+    → count_by (same_digest r) ((last_state h next).queue ++ (last_state h next).leaving)
+    ≤ cond (is_some (find (last_state h next).map r)) 1 0
 
 -- so a flush has a purge for each root of the queue
 abbrev pub QueueIsPurged : Type 0
-QueueIsPurged = (h : History) (next : ℕ) → Legal h next → length (queued (last_state h next)) ≡ length (last_state h next).queue
+QueueIsPurged =
+    (h : History) (next : ℕ) → Legal h next
+    → length (queued (last_state h next)) ≡ length (last_state h next).queue
 
 -- the event empties this place: it is unmount, or closes the place
 abbrev pub Empties : Place → Who → Act → Type 0
@@ -101,8 +108,9 @@ Empties p who _ = ⊥
 -- what a slot holds stays there until an event empties it
 abbrev pub SlotsStay : Type 0
 SlotsStay =
-    (g : Setting) (s : State) (e : CoreEvent) (p : Place) (r : Digest) → Fits g s e → held s.slots p ≡ Some r
-    → ¬ Empties p e.who e.act → held (after g s e).slots p ≡ Some r
+    (g : Setting) (s : State) (e : CoreEvent) (p : Place) (r : Digest)
+    → Fits g s e → held s.slots p ≡ Some r → ¬ Empties p e.who e.act
+    → held (after g s e).slots p ≡ Some r
 
 -- each event that makes the log durable has more calls than the event before it
 abbrev pub SyncsInCalls : History → Type 0
@@ -111,7 +119,8 @@ SyncsInCalls h =
 
 -- each event in which the log grows has more calls than the event before it
 abbrev pub LogsInCalls : History → Type 0
-LogsInCalls h = FromEachToNext (λ old new. old.1 < new.1 → old.0.calls < new.0.calls) (log_lengths h)
+LogsInCalls h =
+    FromEachToNext (λ old new. old.1 < new.1 → old.0.calls < new.0.calls) (log_lengths h)
 
 -- what is durable after so many calls was logged by then, where each sync makes a call of its own,
 -- or each event that logs does

@@ -1,4 +1,5 @@
--- The order of the places that hold open blobs (this project's profile; as the derived `Ord` compares).
+-- The order of the places that hold open blobs (this project's profile; as the derived `Ord`
+-- compares).
 use Rattle.std.specs.declared.cmp.Ordering.{Ordering}
 use Rattle.std.specs.Ordering.{nat_cmp, ordering_then}
 use Rattle.bv_model.specs.declared.place.Place.{Place}

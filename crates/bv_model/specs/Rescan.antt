@@ -1,6 +1,6 @@
 -- What one deed does at a place, to a root, and to how many there are: the steps of the calls that
 -- go over a history without memory, each proved to be the core's own.
-use Rattle.std.specs.Prelude.{ℕ, Bool, true, false, cond, not, ◌+◌, ◌-◌, ◌==◌, ◌&&◌, ◌||◌, Option, Some, None, take}
+use Rattle.std.specs.Prelude.{ℕ, Bool, false, cond, not, ◌+◌, ◌-◌, ◌==◌, ◌&&◌, ◌||◌, Option, Some, None, take}
 use Rattle.std.specs.Ordering.{eq_by_cmp}
 use Rattle.spec_tree.specs.declared.Digest.{Digest}
 use Rattle.spec_tree.specs.Order.{same_digest}
@@ -16,7 +16,8 @@ use Rattle.bv_model.specs.declared.rescan.Standing.{Standing}
 
 -- the state after the first so many events of a history
 abbrev pub state_at : History → ℕ → ℕ → State
-state_at h next count = state_after (setting_of h) (first_state (opening_map h) next) (take count h.events)
+state_at h next count =
+    state_after (setting_of h) (first_state (opening_map h) next) (take count h.events)
 
 -- in a legal history, this holds after the first so many events
 abbrev pub After : History → ℕ → (State → Type 0) → Type 0
@@ -43,7 +44,10 @@ nowhere = record { holders = 0; leaving = false }
 
 -- one slot holds it no longer: with the last it goes
 abbrev pub less_one : Standing → Standing
-less_one was = record { holders = was.holders - 1; leaving = was.leaving && not (was.holders - 1 == 0) }
+less_one was = record {
+  holders = was.holders - 1;
+  leaving = was.leaving && not (was.holders - 1 == 0);
+}
 
 -- the root leaves with a slot that is closed, the last that held it
 abbrev pub goes_with : Standing → Bool
@@ -56,9 +60,11 @@ is_root r (Some x) = same_digest r x
 
 -- how a root stands after a deed, before which this was held at the place that is closed
 abbrev pub standing_next : Digest → Standing → Option Digest → Deed → Standing
-standing_next r was at (Opens p x) = cond (same_digest r x) (record was { holders = was.holders + 1 }) was
+standing_next r was at (Opens p x) =
+    cond (same_digest r x) (record was { holders = was.holders + 1 }) was
 standing_next r was at (Closes p) = cond (is_root r at) (less_one was) was
-standing_next r was at (Unlinks x) = cond (same_digest r x) (record was { leaving = was.leaving || not (was.holders == 0) }) was
+standing_next r was at (Unlinks x) =
+    cond (same_digest r x) (record was { leaving = was.leaving || not (was.holders == 0) }) was
 standing_next r was at (Empties purges) = nowhere
 standing_next r was at _ = was
 
@@ -67,11 +73,12 @@ abbrev pub closed_root : State → Deed → Option Digest
 closed_root s (Closes p) = held s.slots p
 closed_root s _ = None
 
--- how the root stands that a deed unlinks, or closes a place of
+-- how the root stands that a place held, if it held one
 abbrev pub standing_of_root : State → Option Digest → Standing
 standing_of_root s None = nowhere
 standing_of_root s (Some r) = standing_in s r
 
+-- how the root stands that a deed unlinks, or closes a place of
 abbrev pub standing_for : State → Deed → Standing
 standing_for s (Closes p) = standing_of_root s (held s.slots p)
 standing_for s (Unlinks r) = standing_in s r
@@ -92,9 +99,12 @@ abbrev pub lengths_next : Lengths → Standing → Deed → Lengths
 lengths_next t root (Closes p) =
     cond (goes_with root) (record t { leaving = t.leaving - 1; queue = t.queue + 1 }) t
 lengths_next t root (Unlinks r) =
-    cond (root.holders == 0) (record t { queue = t.queue + 1 }) (record t { leaving = t.leaving + 1 })
+    cond (root.holders == 0)
+    (record t { queue = t.queue + 1 })
+    (record t { leaving = t.leaving + 1 })
 lengths_next t root (Publishes r) = record (all_purged t) { log = t.log + t.queue + 1 }
 lengths_next t root Purges = all_purged t
 lengths_next t root (Empties purges) =
-    let all : Lengths = record t { leaving = 0; queue = t.queue + t.leaving } in cond purges (all_purged all) all
+    let all : Lengths = record t { leaving = 0; queue = t.queue + t.leaving } in
+    cond purges (all_purged all) all
 lengths_next t root _ = t

@@ -25,7 +25,8 @@ purge_need (Purge r blob) = blob_need blob
 -- volume's version, and by the purges in the log past what is durable
 abbrev pub taken : Setting → State → ℕ
 taken g s =
-    sum_by blob_need (values_of s.map) + sum_by (need_of g.version) (values_of s.adds) + sum_by purge_need (drop s.durable s.log)
+    sum_by blob_need (values_of s.map) + sum_by (need_of g.version) (values_of s.adds)
+    + sum_by purge_need (drop s.durable s.log)
 
 -- the room: block 0 is no blob's, and where more is taken than there is, 0
 abbrev pub room_in : Setting → State → ℕ

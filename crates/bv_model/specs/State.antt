@@ -1,4 +1,5 @@
--- The state of the core (this project's profile). Maps and sets are lists in the order of their keys.
+-- The state of the core (this project's profile). Maps and sets are lists in the order of their
+-- keys.
 use Rattle.std.specs.Prelude.{ℕ, Bool, cond, not, ◌||◌, List, length, filter, Option, None}
 use Rattle.std.specs.List.{list_any, count_by}
 use Rattle.std.specs.BTreeMap.{is_at}

@@ -14,7 +14,8 @@ use Rattle.bv_model.specs.declared.setting.Setting.{Setting}
 -- the reply no-nodes: more nodes are needed than are free, by numbers within these bounds
 abbrev pub IsNoNodes : ℕ → ℕ → Reply → Type 0
 IsNoNodes most least reply =
-    (need : ℕ) × (free : ℕ) × (reply ≡ NoNodes need free) × (free < need) × (need ≤ most) × (least ≤ free)
+    (need : ℕ) × (free : ℕ) × (reply ≡ NoNodes need free)
+    × (free < need) × (need ≤ most) × (least ≤ free)
 
 -- the reply is one of the choice
 abbrev pub Chosen : Choice → Reply → Type 0

@@ -41,12 +41,14 @@ tells_durable _ = false
 -- SyncedBy: the log's length after the last event with reply synced or unmounted and at most so
 -- many calls, else 0
 abbrev pub synced_by : History → ℕ → ℕ
-synced_by h calls = last_or 0 (lengths_where (λ e. tells_durable e.reply && nat_le e.calls calls) (log_lengths h))
+synced_by h calls =
+    last_or 0 (lengths_where (λ e. tells_durable e.reply && nat_le e.calls calls) (log_lengths h))
 
 -- LoggedBy: the log's length after the first event with at least so many calls, else the whole
 -- length
 abbrev pub logged_by : History → ℕ → ℕ
-logged_by h calls = first_or (length (log_of h)) (lengths_where (λ e. nat_le calls e.calls) (log_lengths h))
+logged_by h calls =
+    first_or (length (log_of h)) (lengths_where (λ e. nat_le calls e.calls) (log_lengths h))
 
 -- the number of a device-fault or read-fault
 abbrev pub fault_of : Reply → List ℕ

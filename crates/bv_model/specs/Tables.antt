@@ -2,6 +2,7 @@
 use Rattle.bv_model.specs.Core.{Core}
 use Rattle.bv_model.specs.declared.machine.Machine.TheInside.{Inside}
 
+-- the core, table by table
 abbrev pub core_of : Inside → Core
 core_of t = record {
   setting = t.setting;

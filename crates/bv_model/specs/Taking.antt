@@ -1,6 +1,6 @@
 -- What one event does to the blocks that are taken: the steps of the call that goes over a history
 -- for its room without memory, each proved to be the core's own.
-use Rattle.std.specs.Prelude.{◌≡◌, ℕ, Bool, true, false, cond, ◌+◌, ◌-◌, ◌==◌, ◌&&◌, Some, None}
+use Rattle.std.specs.Prelude.{◌≡◌, ℕ, Bool, true, false, cond, ◌+◌, ◌-◌, ◌==◌, Some, None}
 use Rattle.std.specs.Option.{option_map, unwrap_or}
 use Rattle.spec_tree.specs.Tree.{need_of}
 use Rattle.spec_tree.specs.declared.Digest.{Digest}
@@ -11,13 +11,13 @@ use Rattle.bv_model.specs.Rescan.{goes_with}
 use Rattle.bv_model.specs.Room.{blob_need}
 use Rattle.bv_model.specs.State.{State, find, held}
 use Rattle.bv_model.specs.declared.act.Act.{Act}
-use Rattle.bv_model.specs.declared.act.Act.TheVariants.{Begin, Admit, Settle, Retire, Sync, Unmount}
+use Rattle.bv_model.specs.declared.act.Act.TheVariants.{Begin, Admit, Settle, Retire}
 use Rattle.bv_model.specs.declared.adding.Adding.{Adding}
 use Rattle.bv_model.specs.declared.adding.Adding.TheVariants.{Nothing, Begins, Ends, Publishes}
 use Rattle.bv_model.specs.declared.deed.Deed.{Deed}
 use Rattle.bv_model.specs.declared.deed.Deed.TheVariants as deeds
 use Rattle.bv_model.specs.declared.reply.Reply.{Reply}
-use Rattle.bv_model.specs.declared.reply.Reply.TheVariants.{Granted, Admitted, Published, DeviceFault}
+use Rattle.bv_model.specs.declared.reply.Reply.TheVariants.{Granted, Admitted, Published}
 use Rattle.bv_model.specs.declared.rescan.Standing.{Standing}
 use Rattle.bv_model.specs.declared.room.Known.{Known}
 use Rattle.bv_model.specs.declared.room.Taken.{Taken}
@@ -26,18 +26,22 @@ use Rattle.bv_model.specs.declared.who.Who.{Who}
 
 -- ---- what an event does to the adds
 
+-- a begin that was granted puts an add under way
 abbrev pub begin_adding : Digest → ℕ → Reply → Adding
 begin_adding r n Granted = Begins r n
 begin_adding r n _ = Nothing
 
+-- an admit that was refused ends the add
 abbrev pub admit_adding : Digest → Reply → Adding
 admit_adding r Admitted = Nothing
 admit_adding r _ = Ends r
 
+-- a settle ends the add, and may publish it
 abbrev pub settle_adding : Digest → Reply → Adding
 settle_adding r Published = Publishes r
 settle_adding r _ = Ends r
 
+-- what an event does to the adds, by its act and reply
 abbrev pub adding_of : Act → Reply → Adding
 adding_of (Begin r n) reply = begin_adding r n reply
 adding_of (Admit r) reply = admit_adding r reply
@@ -54,7 +58,9 @@ add_ended r was x = cond (same_digest r x) (record was { adding = false }) was
 -- what is known of a root after an event, where new blobs get this version
 abbrev pub known_next : Digest → Known → ℕ → Adding → Known
 known_next r was version (Begins x n) =
-    cond (same_digest r x) (record { blob = record { size = n; version = version }; adding = true }) was
+    cond (same_digest r x)
+    (record { blob = record { size = n; version = version }; adding = true })
+    was
 known_next r was version (Ends x) = add_ended r was x
 known_next r was version (Publishes x) = add_ended r was x
 known_next r was version Nothing = was
@@ -111,7 +117,9 @@ abbrev pub by_deed : Taken → Standing → ℕ → Deed → Taken
 by_deed t root need (deeds.Closes p) =
     cond (goes_with root) (record t { leaving = t.leaving - need; queued = t.queued + need }) t
 by_deed t root need (deeds.Unlinks r) =
-    cond (root.holders == 0) (record t { queued = t.queued + need }) (record t { leaving = t.leaving + need })
+    cond (root.holders == 0)
+    (record t { queued = t.queued + need })
+    (record t { leaving = t.leaving + need })
 by_deed t root need (deeds.Publishes r) = record t { purged = t.purged + t.queued; queued = 0 }
 by_deed t root need deeds.Purges = all_freed t
 by_deed t root need (deeds.Empties purges) = cond purges (all_freed (all_let_go t)) (all_let_go t)
@@ -131,4 +139,5 @@ counted_again false t = t
 -- the blocks after an event
 abbrev pub taken_next : Taken → Standing → ℕ → Who → Act → Reply → Taken
 taken_next t root need who act reply =
-    counted_again (fails act reply) (by_adding t root need (adding_of act reply) (deed_of who act reply))
+    counted_again (fails act reply)
+    (by_adding t root need (adding_of act reply) (deed_of who act reply))

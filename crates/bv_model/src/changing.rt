@@ -156,7 +156,8 @@ impl Machine {
     /// The device failed while the queue's purges and a publication were written.
     fn fail_to_publish(&mut self, root: Digest, blob: Blob, fault: u64) -> Result<(), AllocError>
         ensures setting { OnOk result (self.new.setting ≡ self.old.setting) }
-        ensures state { OnOk result (self.new.state ≡ L.failed self.old.state (MapChange.Publish root blob ∷ []) fault) }
+        ensures state { OnOk result (self.new.state
+            ≡ L.failed self.old.state (MapChange.Publish root blob ∷ []) fault) }
     {
         self.fail(fault)?;
         self.log.push(MapChange::Publish { root, blob })?;
@@ -246,7 +247,8 @@ impl Machine {
     pub fn change(&mut self, who: Who, act: Act, reply: Reply) -> Result<(), AllocError>
         requires { self.old.state.next < 2 ^ 63 }
         ensures setting { OnOk result (self.new.setting ≡ self.old.setting) }
-        ensures state { OnOk result (self.new.state ≡ C.change self.old.setting self.old.state who act reply) }
+        ensures state { OnOk result (self.new.state
+            ≡ C.change self.old.setting self.old.state who act reply) }
     {
         match act {
             Act::Begin { root, size } => self.begun(root, size, reply),

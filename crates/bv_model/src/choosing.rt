@@ -19,7 +19,7 @@ use crate::reply::Reply;
 use crate::who::Who;
 use spec_tree::Digest;
 
-/// The number of which no entry has one above.
+/// The first number that no entry has: they go from 1 to 2^62 - 1.
 const NUMBER_END: u64 = 1 << 62;
 
 /// The reply that a write or sync failed earlier, or else the choice.
@@ -114,7 +114,8 @@ impl Machine {
     }
 
     fn open_choice(&self, place: Place, root: Digest) -> Choice
-        ensures { result ≡ C.open_choice (S.present self.now.state root) (S.held self.now.state.slots place) }
+        ensures { result
+            ≡ C.open_choice (S.present self.now.state root) (S.held self.now.state.slots place) }
     {
         match present(&self.map, &self.leaving, &self.queue, root) {
             None => Choice::Only(Reply::NotFound),
@@ -149,7 +150,9 @@ impl Machine {
     }
 
     fn unmount_choice(&self) -> Choice
-        ensures { result ≡ C.sync_choice self.now.state (self.now.state.queue ++ self.now.state.leaving) Reply.Unmounted }
+        ensures { result
+            ≡ C.sync_choice self.now.state
+            (self.now.state.queue ++ self.now.state.leaving) Reply.Unmounted }
     {
         if !self.purges_none() && self.next == NUMBER_END {
             Choice::Only(Reply::NumberEnd)

@@ -27,7 +27,12 @@ const BLOCK: u64 = 8192;
 fn note(history: &mut History, act: Act, reply: Reply, calls: u64)
     requires { 1 ≤ history.old.spare }
     ensures { history.new ≡ record history.old {
-      events = history.old.events ++ record { who = record { session = 0; line = 1 }; act = act; reply = reply; calls = calls } ∷ [];
+      events = history.old.events ++ record {
+        who = record { session = 0; line = 1 };
+        act = act;
+        reply = reply;
+        calls = calls;
+      } ∷ [];
       spare = history.old.spare - 1;
     } }
 {
@@ -80,7 +85,14 @@ fn a_purge_is_durable_from_its_sync_on_and_logged_from_the_calls_past_the_event_
 ) -> Result<(), Fail> {
     let history = history_of_a_purge(rt.alloc())?;
     // calls, with how much is synced and logged by them
-    let rows = [(0, 0, 0), (2, 0, 0), (3, 0, 1), (4, 1, 1), (5, 1, 2), (9, 1, 2)];
+    let rows = [
+        (0, 0, 0),
+        (2, 0, 0),
+        (3, 0, 1),
+        (4, 1, 1),
+        (5, 1, 2),
+        (9, 1, 2),
+    ];
     for (calls, synced, logged) in rows {
         assert_eq!(rt; synced_by(&history, calls), synced, "{calls}");
         assert_eq!(rt; logged_by(&history, calls), logged, "{calls}");
@@ -89,8 +101,8 @@ fn a_purge_is_durable_from_its_sync_on_and_logged_from_the_calls_past_the_event_
     Ok(())
 }
 
-/// The size of a blob of 257 blocks of data. Its tree has 3 blocks in version 1, for 257 digests and
-/// for 2, and 2 in version 2, for 259 digests joined.
+/// The size of a blob of 257 blocks of data. Its tree has 3 blocks in version 1, for 257 digests
+/// and for 2, and 2 in version 2, for 259 digests joined.
 const LARGE: u64 = 257 * BLOCK;
 
 /// The events of a volume of 779 blocks, and the room after each.

@@ -43,7 +43,9 @@ pub(crate) fn present(
     queue: &[Digest],
     root: Digest,
 ) -> Option<Blob>
-    ensures { result ≡ cond (S.among leaving.now.keys root || S.among queue.now root) None (S.find map.now.entries root) }
+    ensures { result
+        ≡ cond (S.among leaving.now.keys root || S.among queue.now root) None
+        (S.find map.now.entries root) }
 {
     if is_unlinked(leaving, queue, root) {
         None
@@ -58,7 +60,9 @@ pub(crate) fn count_present(
     leaving: &BTreeSet<Digest>,
     queue: &[Digest],
 ) -> usize
-    ensures { result ≡ length (filter (λ e. not (S.among leaving.now.keys e.0 || S.among queue.now e.0)) map.now.entries) }
+    ensures { result
+        ≡ length (filter (λ e. not (S.among leaving.now.keys e.0 || S.among queue.now e.0))
+        map.now.entries) }
 {
     map.iter()
         .filter(|(root, _)| !is_unlinked(leaving, queue, **root))

@@ -89,7 +89,9 @@ pub(crate) fn less_other_nodes(
     adds: &BTreeMap<Digest, u64>,
     root: Digest,
 ) -> u64
-    ensures { result ≡ left - sum_by (R.worst_nodes version) (values_of (remove_entry (is_at (digest_cmp root)) adds.now.entries)) }
+    ensures { result
+        ≡ left - sum_by (R.worst_nodes version)
+        (values_of (remove_entry (is_at (digest_cmp root)) adds.now.entries)) }
 {
     let mut rest = left;
     let mut passed = false;

@@ -16,7 +16,8 @@ fn purge(
     root: Digest,
 ) -> Result<(), AllocError>
     ensures map { OnOk result (map.new.entries ≡ L.without map.old.entries root) }
-    ensures log { OnOk result (log.new.items ≡ log.old.items ++ L.purge_of (S.find map.old.entries root) root) }
+    ensures log { OnOk result (log.new.items
+        ≡ log.old.items ++ L.purge_of (S.find map.old.entries root) root) }
 {
     if let Some(blob) = map.remove(&root) {
         log.push(MapChange::Purge { root, blob })?;
@@ -30,8 +31,10 @@ pub(crate) fn purge_all(
     log: &mut Vec<MapChange>,
     roots: &[Digest],
 ) -> Result<(), AllocError>
-    ensures map { OnOk result (map.new.entries ≡ L.changed map.old.entries (L.purges map.old.entries roots.now)) }
-    ensures log { OnOk result (log.new.items ≡ log.old.items ++ L.purges map.old.entries roots.now) }
+    ensures map { OnOk result (map.new.entries
+        ≡ L.changed map.old.entries (L.purges map.old.entries roots.now)) }
+    ensures log { OnOk result (log.new.items
+        ≡ log.old.items ++ L.purges map.old.entries roots.now) }
 {
     for root in roots {
         purge(map, log, *root)?;

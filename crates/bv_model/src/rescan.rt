@@ -1,4 +1,5 @@
-//! What the core has after a history's first events, found without memory: by going over them again.
+//! What the core has after a history's first events, found without memory: by going over them
+//! again.
 
 ghost use Rattle.std.specs.Prelude.{◌≡◌, ℕ, ◌≤◌, ◌<◌, ◌+◌, ◌^◌, ◌-◌, ◌==◌, ◌&&◌, cond, nat_le, length};
 ghost use Rattle.bv_model.specs.History.{Legal};
@@ -236,13 +237,7 @@ impl Lengths {
         ensures bound { C.in_all result ≤ C.in_all self + 1 }
     {
         match deed {
-            Deed::Closes { .. } => {
-                if root.goes() {
-                    self.one_let_go()
-                } else {
-                    self
-                }
-            }
+            Deed::Closes { .. } => { if root.goes() { self.one_let_go() } else { self } }
             Deed::Unlinks { .. } => self.one_unlinked(root),
             Deed::Publishes { .. } => {
                 let purged = self.all_purged();

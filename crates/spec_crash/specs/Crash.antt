@@ -1,7 +1,7 @@
 -- What a stop of the machine leaves of a mounted volume (this project's profile).
 --
--- `base` is the disk when the mount began, `events` are the device's events since, `h` is the history
--- of the mount.
+-- `base` is the disk when the mount began, `events` are the device's events since, `h` is the
+-- history of the mount.
 use Rattle.std.specs.Prelude.{◌≡◌, ◌<◌, ◌≤◌, ◌⊎◌, ◌++◌, ℕ, List, length, take, map, All, Contains, Some}
 use Rattle.spec_tree.specs.declared.Digest.{Digest}
 use Rattle.spec_tree.specs.declared.blob.Blob.{Blob}
@@ -28,8 +28,8 @@ pub record HoldsWhole (j : Blocks) (held : List (Digest × Blob)) : Type 0 where
   pub is : blobs j ≡ Some held
   pub whole : All (λ entry. IsWhole j entry.0) held
 
--- after so many events of the device, the image has the blobs after some first changes of the log: all
--- that a sync made durable by then, and none that wasn't yet logged
+-- after so many events of the device, the image has the blobs after some first changes of the log:
+-- all that a sync made durable by then, and none that wasn't yet logged
 pub record HoldsPrefix (h : History) (calls : ℕ) (j : Blocks) : Type 0 where
   pub count : ℕ
   pub durable : synced_by h calls ≤ count
@@ -37,15 +37,14 @@ pub record HoldsPrefix (h : History) (calls : ℕ) (j : Blocks) : Type 0 where
   pub boundary : IsLogLength h count
   pub holds : HoldsWhole j (map_after h count)
 
--- CrashPrefix: each image of each prefix of the events, in which no torn entry matches by chance, holds
--- such a prefix of the log; and the history is timed by the events
+-- CrashPrefix: each image of each prefix of the events, in which no torn entry matches by chance,
+-- holds such a prefix of the log; and the history is timed by the events
 pub record CrashPrefix (base : Blocks) (events : List Event) (h : History) : Type 0 where
   pub stops : (n : ℕ) (j : Blocks) → n ≤ length events
       → IsImage base (take n events) j → NoChance base (take n events) j → HoldsPrefix h n j
   pub timed : IsTimed events h
 
--- each image of each prefix that ends within the later ones of these events holds such a prefix of the
--- log
+-- each image of each prefix that is longer than `events` holds such a prefix of the log
 abbrev pub StopsWithin : Blocks → List Event → List Event → History → Type 0
 StopsWithin base events more h =
     (n : ℕ) (j : Blocks) → length events < n → n ≤ length (events ++ more)

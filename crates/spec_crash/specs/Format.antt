@@ -1,7 +1,7 @@
 -- What a stop of the machine leaves of a device that is being formatted (this project's profile).
 --
--- `base` and `before` are the disk and its events when the call began, `events` are the events of the
--- call so far.
+-- `base` and `before` are the disk and its events when the call began, `events` are the events of
+-- the call so far.
 use Rattle.std.specs.Prelude.{◌≡◌, ◌≤◌, ◌⊎◌, ℕ, List, [], ◌++◌, length, take, replicate, false, Some, Err, IsSomeAnd}
 use Rattle.spec_disk.specs.declared.event.Event.{Event}
 use Rattle.spec_disk.specs.Disk.{Blocks, block, sector, now_after, has_sync}

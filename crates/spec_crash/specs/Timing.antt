@@ -1,7 +1,7 @@
 -- How the events of a device time a history (this project's profile).
 --
--- `calls` of a history's event is the number of writes and syncs since the mount began: a place in the
--- list of the device's events, counted from 1.
+-- `calls` of a history's event is the number of writes and syncs since the mount began: a place in
+-- the list of the device's events, counted from 1.
 use Rattle.std.specs.Prelude.{◌≡◌, ◌<◌, ◌⊎◌, ◌++◌, ℕ, zero, suc, ◌+◌, List, [], ◌∷◌, length, true, All, Option, None, IsSomeAnd, IsTrue, slice_get}
 use Rattle.spec_disk.specs.declared.event.Event.{Event}
 use Rattle.spec_disk.specs.declared.event.Event.TheVariants as device
@@ -17,10 +17,12 @@ abbrev pub event_at : List Event → ℕ → Option Event
 event_at events zero = None
 event_at events (suc before) = slice_get events before
 
+-- a write that succeeded
 abbrev pub IsOkWrite : Event → Type 0
 IsOkWrite (device.Write at bytes ok) = IsTrue ok
 IsOkWrite (device.Sync ok) = ⊥
 
+-- a sync that succeeded
 abbrev pub IsOkSync : Event → Type 0
 IsOkSync (device.Write at bytes ok) = ⊥
 IsOkSync (device.Sync ok) = IsTrue ok
@@ -39,6 +41,7 @@ MayCall acts.Sync = Unit {0}
 MayCall acts.Unmount = Unit {0}
 MayCall _ = ⊥
 
+-- the event puts a block
 abbrev pub IsPut : Act → Type 0
 IsPut (acts.Put index) = Unit {0}
 IsPut _ = ⊥

@@ -1,4 +1,4 @@
-use Rattle.std.proofs.Common.{◌∙◌, sym, refl, ℕ, true, false, arith}
+use Rattle.std.proofs.Common.{◌∙◌, sym, refl, true, false, arith}
 use Rattle.bv_model.proofs.Lengths.{lengths_more}
 use Rattle.bv_model.proofs.rescan.log_after.Goals as goal
 use Rattle.bv_model.proofs.rescan.log_after.Goals.{then-fails, else-fails}

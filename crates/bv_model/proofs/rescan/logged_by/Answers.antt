@@ -1,4 +1,4 @@
-use Rattle.std.proofs.Common.{◌∙◌, ap, sym, ℕ, length, arith}
+use Rattle.std.proofs.Common.{◌∙◌, ap, sym, ℕ, length}
 use Rattle.bv_model.proofs.Durable.{logged_all, logged_here, logged_later, logged_end}
 use Rattle.bv_model.proofs.Rescans.{state_at_end}
 use Rattle.bv_model.specs.State.{State}

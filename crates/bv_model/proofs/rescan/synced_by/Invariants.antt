@@ -1,6 +1,5 @@
 use Rattle.std.proofs.Common.{◌≡◌, ◌≤◌, ℕ, length}
 use Rattle.bv_model.proofs.Durable.{synced_from}
-use Rattle.bv_model.specs.History.{Legal}
 use Rattle.bv_model.specs.Rescan.{state_at}
 use Rattle.bv_model.specs.Synced.{synced_by}
 use Rattle.bv_model.proofs.rescan.synced_by.Given as goal
