@@ -1,4 +1,4 @@
-"""`crc32` in one thread beside zlib's as Python calls it, over 64 MiB of random bytes: MB/s and ratio."""
+"""`crc32` in one thread beside zlib's as Python calls it, over 64 MiB: MB/s and ratio."""
 import os
 import pathlib
 import tempfile

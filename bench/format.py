@@ -1,5 +1,5 @@
-"""`format` of the longest journal of version 1 on a new file, beside `dd` writing as many zero blocks
-with one sync, interleaved on one disk, best of five.
+"""`format` of the longest journal of version 1 on a new file, beside `dd` writing as many zero
+blocks with one sync, interleaved on one disk, best of five.
 
 Prints MB/s (10^6 bytes of written blocks a second, the whole process), the ratio of our rate to the
 other's, and the most memory. The files lie in the folder that is given, or in this one.

@@ -1,4 +1,4 @@
-"""The Merkle root of bytes, written from its definition over hashlib: the scripts' own reference."""
+"""The Merkle root of bytes from its definition, over hashlib: the scripts' own reference."""
 import hashlib
 
 BLOCK = 8192
