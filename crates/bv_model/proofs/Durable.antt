@@ -1,7 +1,6 @@
 -- What is durable, and what was logged, by so many calls: event by event.
-use Rattle.std.proofs.Common.{◌≡◌, ℕ, ◌+◌, ◌<◌, ◌≤◌, Bool, true, false, cond, ◌&&◌, nat_le, List, [], ◌∷◌, length, map, drop, get_or, drop-cons, add-one, refl, ap, sym, ◌∙◌, arith}
+use Rattle.std.proofs.Common.{◌≡◌, ℕ, ◌+◌, ◌<◌, ◌≤◌, Bool, true, false, cond, ◌&&◌, nat_le, List, [], ◌∷◌, length, map, drop, get_or, drop-cons, add-one, refl, ap, sym, ◌∙◌}
 use Rattle.std.proofs.Common.{drop_of_length-le}
-use Rattle.std.proofs.lemmas.Bool.Decides.{nat_tests}
 use Rattle.bv_model.proofs.Numbers.{Renumbered, after_apart, numbers_are_apart}
 use Rattle.bv_model.proofs.Rescans.{state_more}
 use Rattle.bv_model.proofs.Timing.{picks}
@@ -71,25 +70,13 @@ first_picked : (b : Bool) (none : ℕ) (p : CoreEvent × ℕ) (ps : List (CoreEv
 first_picked true none p ps = refl
 first_picked false none p ps = refl
 
-logged_more : (h : History) (next calls i : ℕ) (d : CoreEvent) (b : Bool) → i < length h.events → reaches calls (get_or h.events i d) ≡ b
+-- the first event with so many calls shows what was logged
+pub logged_more : (h : History) (next calls i : ℕ) (d : CoreEvent) (b : Bool) → i < length h.events → reaches calls (get_or h.events i d) ≡ b
     → logged_from h next calls i ≡ cond b (length (state_at h next (i + 1)).log) (logged_from h next calls (i + 1))
 logged_more h next calls i d b short e =
     let g : Setting = setting_of h in
     let none : ℕ = length (last_state h next).log in
     ap (λ es. first_or none (lengths_where (reaches calls) (lengths_from g (state_at h next i) es))) (drop-cons h.events i d short) ∙ first_picked (reaches calls (get_or h.events i d)) none _ _ ∙ rw (e, state_more h next i d short, add-one) refl
-
-does_reach : (m n : ℕ) → m ≤ n → nat_le m n ≡ true
-does_reach m n h = grind (arith, nat_tests)
-
-falls_short : (m n : ℕ) → n < m → nat_le m n ≡ false
-falls_short m n h = grind (arith, nat_tests)
-
--- the first event with so many calls shows what was logged
-pub logged_here : (h : History) (next calls i : ℕ) (d : CoreEvent) → i < length h.events → calls ≤ (get_or h.events i d).calls → logged_from h next calls i ≡ length (state_at h next (i + 1)).log
-logged_here h next calls i d short e = logged_more h next calls i d true short (does_reach calls (get_or h.events i d).calls e)
-
-pub logged_later : (h : History) (next calls i : ℕ) (d : CoreEvent) → i < length h.events → (get_or h.events i d).calls < calls → logged_from h next calls i ≡ logged_from h next calls (i + 1)
-logged_later h next calls i d short e = logged_more h next calls i d false short (falls_short calls (get_or h.events i d).calls e)
 
 pub logged_end : (h : History) (next calls i : ℕ) → length h.events ≤ i → logged_from h next calls i ≡ length (last_state h next).log
 logged_end h next calls i long = ap (λ es. first_or (length (last_state h next).log) (lengths_where (reaches calls) (lengths_from (setting_of h) (state_at h next i) es))) (drop_of_length-le h.events long)

@@ -305,6 +305,13 @@ pub fn synced_by(h: &History, calls: u64) -> u64
     log_after(h, count)
 }
 
+/// Whether an event ended with at least so many calls of the device.
+fn reaches(event: &CoreEvent, calls: u64) -> bool
+    ensures { result ≡ nat_le calls event.now.calls }
+{
+    calls <= event.calls
+}
+
 /// How much of the log may be durable after so many writes and syncs of the device: how long it was
 /// after the first event that ended with at least as many, or else after all.
 ///
@@ -315,7 +322,7 @@ pub fn logged_by(h: &History, calls: u64) -> u64
 {
     let events = h.events();
     for i in 0..events.len() {
-        if calls <= events[i].calls {
+        if reaches(&events[i], calls) {
             return log_after(h, i + 1);
         }
     }

@@ -1,5 +1,5 @@
-use Rattle.std.proofs.Common.{◌∙◌, ap, sym, ℕ, length}
-use Rattle.bv_model.proofs.Durable.{logged_all, logged_here, logged_later, logged_end}
+use Rattle.std.proofs.Common.{◌∙◌, ap, sym, ℕ, true, false, length}
+use Rattle.bv_model.proofs.Durable.{logged_all, logged_more, logged_end}
 use Rattle.bv_model.proofs.Rescans.{state_at_end}
 use Rattle.bv_model.specs.State.{State}
 use Rattle.bv_model.proofs.rescan.logged_by.Goals as goal
@@ -9,12 +9,12 @@ loop-i-init c = λ next. logged_all c.args.h.now next c.args.calls
 
 pub loop-i-preserved : goal.loop-i-preserved
 loop-i-preserved c = λ next.
-    sym (logged_later c.args.h.now next c.args.calls c.loop-i.i _ (rw c.events-events.ensures at c.loop-i-test.true) (rw c.events-events.ensures at c.if-calls-events.false)) ∙ c.loop-i.invariant next
+    sym (logged_more c.args.h.now next c.args.calls c.loop-i.i _ false (rw c.events-events.ensures at c.loop-i-test.true) (rw c.events-events.ensures at (sym c.reaches.ensures ∙ c.if-reaches.false))) ∙ c.loop-i.invariant next
 
-pub returns-then-calls-events : goal.returns-then-calls-events
-returns-then-calls-events c =
+pub returns-then-reaches : goal.returns-then-reaches
+returns-then-reaches c =
     let next : ℕ = c.requires.legal.0 in
-    c.log_after.ensures next c.requires.legal.1 ∙ sym (logged_here c.args.h.now next c.args.calls c.loop-i.i _ (rw c.events-events.ensures at c.loop-i-test.true) (rw c.events-events.ensures at c.if-calls-events.true)) ∙ c.loop-i.invariant next
+    c.log_after.ensures next c.requires.legal.1 ∙ sym (logged_more c.args.h.now next c.args.calls c.loop-i.i _ true (rw c.events-events.ensures at c.loop-i-test.true) (rw c.events-events.ensures at (sym c.reaches.ensures ∙ c.if-reaches.true))) ∙ c.loop-i.invariant next
 
 pub returns : goal.returns
 returns c =
