@@ -2,5 +2,6 @@ pub mod CrashLemmas
 pub mod MemoryLemmas
 pub mod PlanLemmas
 pub mod ScheduleLemmas
+pub mod SeenLemmas
 pub mod StopLemmas
 pub mod TracedLemmas

@@ -1,4 +1,4 @@
--- Plans, and runs that follow them: joined, cut short, and what they keep.
+-- Plans, and what runs that follow them tell: joined, cut short, and what they keep.
 use Rattle.std.proofs.Common.{◌≡◌, ◌<◌, ℕ, suc, ◌+◌, ◌-◌, List, [], ◌∷◌, ◌++◌, length, replicate, true, false, Option, Some, None, Result, Ok, Err, refl, ap, sym, ◌∙◌, subst, inl, inr, arith}
 use Rattle.std.proofs.lemmas.List.{append_assoc, append-nil}
 use Rattle.spec_disk.specs.declared.event.Event.{Event}
@@ -52,11 +52,6 @@ writes-append at (bytes ∷ a) b =
 
 -- Runs
 
--- the first event was done
-pub Follows-more : {T E : Type 0} (r : Result T E) (e : Event) (plan : List Event) (old mid new : Option Disk) → mid ≡ with_event old e → Follows r plan mid new → Follows r (e ∷ plan) old new
-Follows-more (Ok v) e plan old mid new is f = f ∙ ap (λ (o : Option Disk). with_events o plan) is
-Follows-more (Err x) e plan old mid new is f = inr (inr (subst (λ (o : Option Disk). CutShort plan o new) is f))
-
 -- a first part was done
 pub Follows-append : {T E : Type 0} (r : Result T E) (p q : List Event) (old mid new : Option Disk) → mid ≡ with_events old p → Follows r q mid new → Follows r (p ++ q) old new
 Follows-append (Ok v) p q old mid new is f = f ∙ ap (λ (o : Option Disk). with_events o q) is ∙ sym (with_events-append old p q)
@@ -88,19 +83,3 @@ copies-next at done count x below =
     let n_is : count - done ≡ suc (count - (done + 1)) = omega arith in
     ap (λ (n : ℕ). writes (at + done) (replicate n x)) n_is
     ∙ ap (λ (n : ℕ). Write (at + done) x true ∷ writes n (replicate (count - (done + 1)) x)) (omega arith)
-
--- what follows the rest follows all of it, once one more place was written
-pub Follows-copies : {T E : Type 0} (r : Result T E) (at done count : ℕ) (x : List ℕ) (old mid new : Option Disk) → done < count → mid ≡ with_event old (Write (at + done) x true)
-    → Follows r (writes (at + (done + 1)) (replicate (count - (done + 1)) x)) mid new → Follows r (writes (at + done) (replicate (count - done) x)) old new
-Follows-copies r at done count x old mid new below is f =
-    subst (λ (p : List Event). Follows r p old new) (sym (copies-next at done count x below)) (Follows-more r (Write (at + done) x true) (writes (at + (done + 1)) (replicate (count - (done + 1)) x)) old mid new is f)
-
--- the write to one more place was cut short
-pub CutShort-copies : (at done count : ℕ) (x : List ℕ) (old new : Option Disk) → done < count → CutShort (Write (at + done) x true ∷ []) old new
-    → CutShort (writes (at + done) (replicate (count - done) x)) old new
-CutShort-copies at done count x old new below c =
-    subst (λ (p : List Event). CutShort p old new) (sym (copies-next at done count x below))
-    (CutShort-append (Write (at + done) x true ∷ []) (writes (at + (done + 1)) (replicate (count - (done + 1)) x)) old new c)
-
--- for a function that calls others with plans of their own, its plan grouped to the right
-pub ruleset plans = (Follows-append, CutShort-append, Follows-more)

@@ -2,6 +2,7 @@
 pub use Rattle.spec_faults.specs.Faults
 pub mod Told
 pub mod Plan
+pub mod Seen
 pub mod Crash
 pub mod Memory
 pub mod Stop

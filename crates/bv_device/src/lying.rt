@@ -59,13 +59,12 @@ impl LyingDevice {
 }
 
 impl Device for LyingDevice {
-    ghost told = { λ _. None };
-
-    ghost block_count = { λ m. length m.blocks };
-
-    ghost calls_made = { λ m. m.calls };
-
-    ghost fault_count = { λ m. m.faults };
+    ghost seen = { λ m. record {
+      told = None;
+      block_count = length m.blocks;
+      calls_made = m.calls;
+      fault_count = m.faults;
+    } };
 
     ghost told_blocks = { λ _. tt };
 

@@ -123,13 +123,12 @@ impl MemDevice {
 }
 
 impl Device for MemDevice {
-    ghost told = { λ m. Some m.disk };
-
-    ghost block_count = { λ m. length m.disk.base };
-
-    ghost calls_made = { λ m. length m.disk.trace };
-
-    ghost fault_count = { λ m. m.faults };
+    ghost seen = { λ m. record {
+      told = Some m.disk;
+      block_count = length m.disk.base;
+      calls_made = length m.disk.trace;
+      fault_count = m.faults;
+    } };
 
     ghost told_blocks = { λ m. refl };
 

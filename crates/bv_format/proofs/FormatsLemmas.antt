@@ -1,23 +1,23 @@
 -- What `format` does to a device, from the plan that its run follows.
-use Rattle.std.proofs.Common.{◌≡◌, ◌≤◌, ℕ, ◌+◌, [], length, Option, Some, None, Result, Ok, Err, refl, ap, sym, ◌∙◌, subst, inl, arith}
+use Rattle.std.proofs.Common.{◌≡◌, ◌≤◌, ℕ, [], length, Option, Some, None, Result, Ok, Err, refl, ap, sym, ◌∙◌, subst, inl, arith}
 use Rattle.std.specs.Prelude.{IfSome}
-use Rattle.spec_faults.specs.Faults.{CountsFaults}
 use Rattle.spec_disk.specs.Images.{IsSettled}
 use Rattle.spec_disk.proofs.EventLemmas.{now_after-append, length-now_after}
 use Rattle.spec_disk.proofs.ImageLemmas.{image-settled, image-now}
 use Rattle.spec_record.specs.declared.geometry.Geometry.{Geometry}
-use Rattle.spec_record.specs.Geometry.{IsGeometry, meta_blocks, total_blocks}
+use Rattle.spec_record.specs.Geometry.{IsGeometry, total_blocks}
 use Rattle.spec_image.specs.Empty.{BeginsEmpty}
 use Rattle.bv_device.specs.declared.failed.Failed.{Failed}
 use Rattle.bv_device.specs.Told.{Disk, now_of, extended}
-use Rattle.bv_device.specs.Plan.{Follows, CountsCalls}
+use Rattle.bv_device.specs.Plan.{Follows}
+use Rattle.bv_device.specs.Seen.{Seen, Performs}
 use Rattle.bv_device.proofs.PlanLemmas.{extended-nil, with_events-some}
 use Rattle.bv_format.specs.declared.fault.FormatFault.{FormatFault}
 use Rattle.bv_format.specs.declared.fault.FormatFault.TheVariants.{Counts, ShortDevice, DeviceFault}
 use Rattle.bv_format.specs.Plan.{format_plan}
 use Rattle.bv_format.specs.Answers.{IsRefusal}
-use Rattle.bv_format.specs.Formats.{View, StopsWell, IsMade, Formats}
-use Rattle.bv_format.proofs.PlanLemmas.{length-plan, IsPlan-format, IsSettled-plan, all_made, now_after-plan, BeginsEmpty-made}
+use Rattle.bv_format.specs.Formats.{StopsWell, IsMade, Formats}
+use Rattle.bv_format.proofs.PlanLemmas.{IsPlan-format, IsSettled-plan, all_made, now_after-plan, BeginsEmpty-made}
 use Rattle.bv_format.proofs.RunLemmas.{Stops-run}
 use Rattle.bv_format.proofs.StopLemmas.{IsEmptyVolume-begins, FormatStop-plan, FormatStop-none}
 
@@ -27,7 +27,7 @@ untouched-stops : (g : Geometry) (told : Option Disk) → IfSome told (λ d. Sto
 untouched-stops g None = tt
 untouched-stops g (Some d) = record { events = []; is = ap (λ (x : Disk). Some x) (sym (extended-nil d)); stop = FormatStop-none d.base d.trace g }
 
-pub Formats-untouched : (g : Geometry) (fault : FormatFault) (v : View) → IsRefusal (Err fault) → Formats g (Err fault) v v
+pub Formats-untouched : (g : Geometry) (fault : FormatFault) (v : Seen) → IsRefusal (Err fault) → Formats g (Err fault) v v
 Formats-untouched g (Counts field value) v refused = record {
   plan = inl refl;
   blocks = refl;
@@ -74,30 +74,24 @@ made-run g (Some d) new blocks lawful room long f =
     let is : new ≡ Some (extended d (format_plan g)) = f ∙ with_events-some d (format_plan g) in
     subst (λ (o : Option Disk). IfSome o (λ e. IsMade g e)) (sym is) (made-by_plan g d lawful (omega (arith, room, long)))
 
-pub Formats-ok : (g : Geometry) (old new : View) → IsGeometry g → total_blocks g ≤ old.block_count → IfSome old.told (λ d. length d.base ≡ old.block_count)
-    → Follows {T = Unit {0}} {E = Failed} (Ok tt) (format_plan g) old.told new.told → new.block_count ≡ old.block_count
-    → CountsCalls {T = Unit {0}} {E = Failed} (meta_blocks g + g.journal + 4) old.calls_made new.calls_made (Ok tt)
-    → CountsFaults {T = Unit {0}} {E = Failed} old.fault_count new.fault_count (Ok tt)
-    → Formats g (Ok tt) old new
-Formats-ok g old new lawful room long f blocks calls faults = record {
-  plan = f;
-  blocks = blocks;
-  calls = record { later = calls.later; ok = omega (arith, calls.ok, length-plan g lawful); err = tt };
-  device = faults.kept;
-  stops = stops-run {T = Unit {0}} {E = Failed} (Ok tt) g old.told new.told old.block_count lawful room long f;
-  made = made-run g old.told new.told old.block_count lawful room long f;
+pub Formats-ok : (g : Geometry) (old new : Seen) → IsGeometry g → total_blocks g ≤ old.block_count → IfSome old.told (λ d. length d.base ≡ old.block_count)
+    → Performs {T = Unit {0}} {E = Failed} (Ok tt) (format_plan g) old new → Formats g (Ok tt) old new
+Formats-ok g old new lawful room long run = record {
+  plan = run.plan;
+  blocks = run.blocks;
+  calls = record { later = run.calls.later; ok = run.calls.ok; err = tt };
+  device = run.faults.kept;
+  stops = stops-run {T = Unit {0}} {E = Failed} (Ok tt) g old.told new.told old.block_count lawful room long run.plan;
+  made = made-run g old.told new.told old.block_count lawful room long run.plan;
 }
 
-pub Formats-err : (g : Geometry) (e : Failed) (fault : ℕ) (old new : View) → IsGeometry g → total_blocks g ≤ old.block_count → IfSome old.told (λ d. length d.base ≡ old.block_count)
-    → Follows {T = Unit {0}} {E = Failed} (Err e) (format_plan g) old.told new.told → new.block_count ≡ old.block_count
-    → CountsCalls {T = Unit {0}} {E = Failed} (meta_blocks g + g.journal + 4) old.calls_made new.calls_made (Err e)
-    → CountsFaults {T = Unit {0}} {E = Failed} old.fault_count new.fault_count (Err e) → fault ≡ new.fault_count
-    → Formats g (Err (DeviceFault fault)) old new
-Formats-err g e fault old new lawful room long f blocks calls faults is = record {
-  plan = f;
-  blocks = blocks;
-  calls = record { later = calls.later; ok = tt; err = omega (arith, calls.err, length-plan g lawful) };
-  device = (faults.failed, faults.later, is);
-  stops = stops-run {T = Unit {0}} {E = Failed} (Err e) g old.told new.told old.block_count lawful room long f;
+pub Formats-err : (g : Geometry) (e : Failed) (fault : ℕ) (old new : Seen) → IsGeometry g → total_blocks g ≤ old.block_count → IfSome old.told (λ d. length d.base ≡ old.block_count)
+    → Performs {T = Unit {0}} {E = Failed} (Err e) (format_plan g) old new → fault ≡ new.fault_count → Formats g (Err (DeviceFault fault)) old new
+Formats-err g e fault old new lawful room long run is = record {
+  plan = run.plan;
+  blocks = run.blocks;
+  calls = record { later = run.calls.later; ok = tt; err = run.calls.err };
+  device = (run.faults.failed, run.faults.later, is);
+  stops = stops-run {T = Unit {0}} {E = Failed} (Err e) g old.told new.told old.block_count lawful room long run.plan;
   made = tt;
 }

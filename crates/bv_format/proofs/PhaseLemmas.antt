@@ -25,12 +25,16 @@ free_nodes g = replicate (node_blocks g) zero_block
 abbrev pub empty_journal : Geometry → List (List ℕ)
 empty_journal g = info_bytes empty_info ∷ replicate (ring_slots g) zero_block
 
--- the plan of the second phase, as its calls follow it
+-- the plan of the second phase, as its calls perform it: what is left after the node map, after
+-- the bitmap, and all of it
+abbrev pub journal_plan : Geometry → List Event
+journal_plan g = writes (info_at g) (empty_journal g) ++ a_sync
+
+abbrev pub map_plan : Geometry → List Event
+map_plan g = writes (1 + bitmap_blocks g) (free_nodes g) ++ journal_plan g
+
 abbrev pub regions_plan : Geometry → List Event
-regions_plan g =
-    writes 1 (empty_bitmap g)
-    ++ (writes (1 + bitmap_blocks g) (free_nodes g)
-    ++ (writes (info_at g) (empty_journal g) ++ a_sync))
+regions_plan g = writes 1 (empty_bitmap g) ++ map_plan g
 
 pub behind_plan-regions : (g : Geometry) → IsGeometry g → behind_plan g ≡ regions_plan g
 behind_plan-regions g lawful =

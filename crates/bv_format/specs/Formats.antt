@@ -1,5 +1,5 @@
 -- What `format` does to a device, whichever way it ends.
-use Rattle.std.specs.Prelude.{◌≡◌, ℕ, List, length, Option, Some, IfSome, Result, OnOk}
+use Rattle.std.specs.Prelude.{◌≡◌, List, length, Option, Some, IfSome, Result, OnOk}
 use Rattle.spec_disk.specs.declared.event.Event.{Event}
 use Rattle.spec_disk.specs.Disk.{Blocks}
 use Rattle.spec_disk.specs.Images.{IsSettled}
@@ -8,24 +8,10 @@ use Rattle.spec_image.specs.Empty.{BeginsEmpty}
 use Rattle.spec_crash.specs.Format.{FormatStop, IsEmptyVolume}
 use Rattle.bv_device.specs.Told.{Disk, MayLeave, now_of, extended}
 use Rattle.bv_device.specs.Plan.{Follows, CountsCalls}
+use Rattle.bv_device.specs.Seen.{Seen}
 use Rattle.bv_format.specs.declared.fault.FormatFault.{FormatFault}
 use Rattle.bv_format.specs.Plan.{format_plan}
 use Rattle.bv_format.specs.Answers.{CountsFault}
-
--- what a contract sees of a device: what it tells, its blocks, its writes and syncs, its failures
-pub record View : Type 0 where
-  pub told : Option Disk
-  pub block_count : ℕ
-  pub calls_made : ℕ
-  pub fault_count : ℕ
-
-abbrev pub view : Option Disk → ℕ → ℕ → ℕ → View
-view told block_count calls_made fault_count = record {
-  told = told;
-  block_count = block_count;
-  calls_made = calls_made;
-  fault_count = fault_count;
-}
 
 -- since d some events came, and a stop after any number of them leaves the old head, no volume, or
 -- the new one
@@ -42,7 +28,7 @@ pub record IsMade (g : Geometry) (d : Disk) : Type 0 where
   pub image : (j : Blocks) → MayLeave d j → j ≡ now_of d
 
 -- what `format` made of a device: `old` is at the call, `new` at its end
-pub record Formats (g : Geometry) (result : Result (Unit {0}) FormatFault) (old new : View)
+pub record Formats (g : Geometry) (result : Result (Unit {0}) FormatFault) (old new : Seen)
     : Type 0 where
   -- all of the plan at Ok, and at an error a beginning of it
   pub plan : Follows result (format_plan g) old.told new.told

@@ -2,7 +2,7 @@
 ghost use Rattle.std.specs.Prelude.{◌≡◌};
 ghost use Rattle.spec_record.specs.Tests.{IsBetween};
 ghost use Rattle.bv_format.specs.Answers.{AnswersCounts, AnswersShort, IsComplete, IsRefusal};
-ghost use Rattle.bv_format.specs.Formats.{Formats, view};
+ghost use Rattle.bv_format.specs.Formats.{Formats};
 
 use crate::FormatFault;
 use crate::phases::make_volume;
@@ -16,15 +16,11 @@ use bv_layout::{Geometry, WrongCount, check_counts};
 pub fn format<D: Device>(dev: &mut D, geometry: Geometry) -> Result<(), FormatFault>
     requires { IsBetween 1 geometry.version 2 }
     ensures counts { AnswersCounts geometry result }
-    ensures short { AnswersShort geometry (D.block_count dev.old) result }
-    ensures complete { IsComplete geometry (D.block_count dev.old) result
-        (D.fault_count dev.old) (D.fault_count dev.new) }
+    ensures short { AnswersShort geometry (D.seen dev.old).block_count result }
+    ensures complete { IsComplete geometry (D.seen dev.old).block_count result
+        (D.seen dev.old).fault_count (D.seen dev.new).fault_count }
     ensures untouched { IsRefusal result → dev.new ≡ dev.old }
-    ensures formats { Formats geometry result
-        (view (D.told dev.old) (D.block_count dev.old) (D.calls_made dev.old)
-        (D.fault_count dev.old))
-        (view (D.told dev.new) (D.block_count dev.new) (D.calls_made dev.new)
-        (D.fault_count dev.new)) }
+    ensures formats { Formats geometry result (D.seen dev.old) (D.seen dev.new) }
 {
     if let Err(WrongCount { field, value }) = check_counts(&geometry) {
         return Err(FormatFault::Counts { field, value });

@@ -9,7 +9,7 @@
 use Rattle.std.specs.Prelude.{◌≡◌, ◌⊎◌, ℕ, List, [], ◌∷◌, codes, map, replicate, string_bytes, Some, Result, Ok, Err, IfOk}
 use Rattle.spec_faults.specs.Faults.{CountsFaults}
 use Rattle.bv_device.specs.declared.failed.Failed.{Failed}
-use Rattle.bv_format.specs.Formats.{View}
+use Rattle.bv_device.specs.Seen.{Seen}
 use Rattle.bv_serve.specs.declared.command.Command.{Command}
 use Rattle.bv_serve.specs.declared.refusal.Refusal.{Refusal}
 use Rattle.bv_serve.specs.declared.refusal.Refusal.TheVariants.{DeviceFault, NoMemory}
@@ -50,7 +50,7 @@ pub record IsRefused (refusal : Refusal) (ended : Status) (input out : Change) :
   pub alone : LeavesAlone input
 
 -- so many zero blocks in memory, which nothing was done to
-abbrev pub memory : ℕ → View
+abbrev pub memory : ℕ → Seen
 memory blocks = record {
   told = Some (record { base = replicate blocks (replicate 8192 0); trace = [] });
   block_count = blocks;
@@ -59,12 +59,12 @@ memory blocks = record {
 }
 
 -- the top call was made on a device that was so at the call, and that nobody has afterwards
-abbrev pub RunsOn : View → List (List ℕ) → Status → Change → Change → Type 0
-RunsOn old command ended input out = (new : View) × Serves command ended old new input out
+abbrev pub RunsOn : Seen → List (List ℕ) → Status → Change → Change → Type 0
+RunsOn old command ended input out = (new : Seen) × Serves command ended old new input out
 
 -- Below, F is what opens files and D an open file. `seen` is what a contract sees of a file,
 -- `count` the failed openings, and the rest says what came of opening, making and closing one.
-module _ {F D : Type 0} (seen : D → View) (count : F → ℕ)
+module _ {F D : Type 0} (seen : D → Seen) (count : F → ℕ)
     (opens : F → List ℕ → Result D Failed → F → Type 0)
     (makes : F → ℕ → List ℕ → Result D Failed → F → Type 0)
     (closes : F → D → F → Type 0) where

@@ -31,7 +31,7 @@ pub trait DiskFiles {
     fn make(&mut self, blocks: u64, path: &str) -> Result<Self::Disk, Failed>
         requires { blocks < 2 ^ 51 }
         ensures gives { make_gives self.old blocks path.now result self.new }
-        ensures blocks { IfOk result (λ dev. Self.Disk.block_count dev ≡ blocks) }
+        ensures blocks { IfOk result (λ dev. (Self.Disk.seen dev).block_count ≡ blocks) }
         ensures faults { CountsFaults (fault_count self.old) (fault_count self.new) result };
 
     /// Closes a file. What lasts of it, its syncs have said.

@@ -1,8 +1,8 @@
 //! A file as a device of blocks.
-ghost use Rattle.std.specs.Prelude.{◌≡◌, ◌<◌, ◌^◌, ◌+◌, ◌-◌, min, None, OnOk};
-ghost use Rattle.spec_faults.specs.Faults.{CountsFaults};
-ghost use Rattle.bv_device.specs.Plan.{CountsCalls};
-ghost use Rattle.bv_main.specs.Files.{one_call_more};
+ghost use Rattle.std.specs.Prelude.{◌≡◌, ◌<◌, ◌^◌, ◌-◌, OnOk};
+ghost use Rattle.bv_device.specs.Plan.{a_write, a_sync};
+ghost use Rattle.bv_device.specs.Seen.{Performs};
+ghost use Rattle.bv_main.specs.Files.{one_call_more, seen_of};
 
 use bv_device::{Block, Device, Failed, LAST_CALL};
 use std::fs::OpenFile;
@@ -51,13 +51,7 @@ impl<F> FileDevice<F> {
 }
 
 impl<F: FileExt + OpenFile> Device for FileDevice<F> {
-    ghost told = { λ _. None };
-
-    ghost block_count = { λ d. d.blocks };
-
-    ghost calls_made = { λ d. d.calls };
-
-    ghost fault_count = { λ d. d.faults };
+    ghost seen = { λ file. seen_of file };
 
     ghost told_blocks = { λ _. tt };
 
@@ -86,11 +80,10 @@ impl<F: FileExt + OpenFile> Device for FileDevice<F> {
     // A write that failed may have changed part of the block, so it counts as made.
     fn write(&mut self, at: u64, from: &Block) -> Result<(), Failed>
         requires { at < self.old.blocks }
-        ensures blocks { self.new.blocks ≡ self.old.blocks }
+        ensures performs { Performs result (a_write at from.now)
+            (seen_of self.old) (seen_of self.new) }
         ensures asked { self.new.calls ≡ one_call_more self.old.calls }
-        ensures calls { CountsCalls 1 self.old.calls self.new.calls result }
         ensures end { OnOk result (self.old.calls < 2 ^ 63 - 1) }
-        ensures faults { CountsFaults self.old.faults self.new.faults result }
     {
         if self.calls < LAST_CALL {
             self.calls += 1;
@@ -103,11 +96,9 @@ impl<F: FileExt + OpenFile> Device for FileDevice<F> {
     }
 
     fn sync(&mut self) -> Result<(), Failed>
-        ensures blocks { self.new.blocks ≡ self.old.blocks }
+        ensures performs { Performs result a_sync (seen_of self.old) (seen_of self.new) }
         ensures asked { self.new.calls ≡ one_call_more self.old.calls }
-        ensures calls { CountsCalls 1 self.old.calls self.new.calls result }
         ensures end { OnOk result (self.old.calls < 2 ^ 63 - 1) }
-        ensures faults { CountsFaults self.old.faults self.new.faults result }
     {
         if self.calls < LAST_CALL {
             self.calls += 1;

@@ -1,6 +1,5 @@
 //! What the program answers, its streams and what opens its files handed in.
 ghost use Rattle.std.specs.Prelude.{◌≡◌, ◌⊎◌, map, string_bytes};
-ghost use Rattle.bv_format.specs.Formats.{view};
 ghost use Rattle.bv_serve.specs.Runs.{change};
 ghost use Rattle.bv_serve.specs.declared.refusal.Refusal.TheVariants as refusal;
 ghost use Rattle.bv_main.specs.declared.request.Request.{Request};
@@ -30,9 +29,7 @@ pub fn answer<F: DiskFiles, S: Source, K: Sink>(
         (change (S.left input.old) (S.left input.new) (S.faults input.old) (S.faults input.new))
         (change (K.given out.old) (K.given out.new) (K.faults out.old) (K.faults out.new)))
         ⊎ ((request : Request) × Asks (map string_bytes words.now) request
-        × Does (λ dev. view (F.Disk.told dev) (F.Disk.block_count dev)
-        (F.Disk.calls_made dev) (F.Disk.fault_count dev))
-        F.fault_count F.open_gives F.make_gives F.close_gives
+        × Does F.Disk.seen F.fault_count F.open_gives F.make_gives F.close_gives
         HELP.now VERSION.now request files.old files.new result
         (change (S.left input.old) (S.left input.new) (S.faults input.old) (S.faults input.new))
         (change (K.given out.old) (K.given out.new) (K.faults out.old) (K.faults out.new))) }
@@ -61,9 +58,7 @@ fn run_on_word<F: DiskFiles, S: Source, K: Sink>(
     out: &mut K,
 ) -> Status
     requires { HasFileRoom device }
-    ensures { RunsOnWord (λ dev. view (F.Disk.told dev) (F.Disk.block_count dev)
-        (F.Disk.calls_made dev) (F.Disk.fault_count dev))
-        F.fault_count F.open_gives F.make_gives F.close_gives
+    ensures { RunsOnWord F.Disk.seen F.fault_count F.open_gives F.make_gives F.close_gives
         device.entry files.old files.new (map string_bytes command.now) result
         (change (S.left input.old) (S.left input.new) (S.faults input.old) (S.faults input.new))
         (change (K.given out.old) (K.given out.new) (K.faults out.old) (K.faults out.new)) }
@@ -93,9 +88,7 @@ fn run_on_file<F: DiskFiles, S: Source, K: Sink>(
     input: &mut S,
     out: &mut K,
 ) -> Status
-    ensures { RunsOnFile (λ dev. view (F.Disk.told dev) (F.Disk.block_count dev)
-        (F.Disk.calls_made dev) (F.Disk.fault_count dev))
-        F.fault_count F.open_gives F.make_gives F.close_gives
+    ensures { RunsOnFile F.Disk.seen F.fault_count F.open_gives F.make_gives F.close_gives
         made files.old files.new (map string_bytes command.now) result
         (change (S.left input.old) (S.left input.new) (S.faults input.old) (S.faults input.new))
         (change (K.given out.old) (K.given out.new) (K.faults out.old) (K.faults out.new)) }
@@ -118,8 +111,7 @@ fn run_on<D: Device + Drop, S: Source, K: Sink>(
     input: &mut S,
     out: &mut K,
 ) -> Status
-    ensures { RunsOn
-        (view (D.told dev) (D.block_count dev) (D.calls_made dev) (D.fault_count dev))
+    ensures { RunsOn (D.seen dev)
         (map string_bytes command.now) result
         (change (S.left input.old) (S.left input.new) (S.faults input.old) (S.faults input.new))
         (change (K.given out.old) (K.given out.new) (K.faults out.old) (K.faults out.new)) }

@@ -5,7 +5,7 @@ use Rattle.spec_faults.specs.Faults.{Rose}
 use Rattle.spec_record.specs.declared.geometry.Geometry.{Geometry}
 use Rattle.spec_record.specs.Geometry.{total_blocks}
 use Rattle.bv_layout.specs.Counts.{counts_or_fault}
-use Rattle.bv_format.specs.Formats.{View}
+use Rattle.bv_device.specs.Seen.{Seen}
 use Rattle.bv_serve.specs.declared.command.Command.TheVariants.{Root, Format}
 use Rattle.bv_serve.specs.declared.refusal.Refusal.TheVariants.{Usage}
 use Rattle.bv_serve.specs.declared.status.Status.{Status}
@@ -46,7 +46,7 @@ RunsRoot-complete status.Memory input out p q r bytes e h = absurd p
 RunsRoot-complete status.Damage input out p q r bytes e h = absurd p
 RunsRoot-complete status.Refused input out p q r bytes e h = absurd p
 
-pub Serves-root : (words : List (List ℕ)) (ended : Status) (old new : View) (input out : Change) → IsForm words Root
+pub Serves-root : (words : List (List ℕ)) (ended : Status) (old new : Seen) (input out : Change) → IsForm words Root
     → RunsRoot ended input out → Serves words ended old new input out
 Serves-root words ended old new input out form runs = record {
   usage = (
@@ -60,7 +60,7 @@ Serves-root words ended old new input out form runs = record {
   format_complete = λ g other. absurd (root-not-format words g form other);
 }
 
-pub Serves-format : (words : List (List ℕ)) (g : Geometry) (ended : Status) (old new : View) (input out : Change) → IsForm words (Format g)
+pub Serves-format : (words : List (List ℕ)) (g : Geometry) (ended : Status) (old new : Seen) (input out : Change) → IsForm words (Format g)
     → RunsFormat g ended old new input out
     → (counts_or_fault g ≡ Ok tt → total_blocks g ≤ old.block_count → ¬ Rose old.fault_count new.fault_count
     → ¬ Rose out.faults_before out.faults_after → ended ≡ status.Ok)
@@ -78,7 +78,7 @@ Serves-format words g ended old new input out form runs complete = record {
       → ¬ Rose out.faults_before out.faults_after → ended ≡ status.Ok) (format-unique words g h form other) complete;
 }
 
-pub Serves-refused : (words : List (List ℕ)) (ended : Status) (old new : View) (input out : Change) → IsNoForm words → ended ≡ status.Usage
+pub Serves-refused : (words : List (List ℕ)) (ended : Status) (old new : Seen) (input out : Change) → IsNoForm words → ended ≡ status.Usage
     → LeavesAlone input → Prints out (refusal_line Usage) → Serves words ended old new input out
 Serves-refused words ended old new input out none same alone line = record {
   usage = (λ (_ : ended ≡ status.Usage). none, λ (_ : IsNoForm words). same);

@@ -6,7 +6,8 @@ use Rattle.spec_record.specs.declared.geometry.Geometry.{Geometry}
 use Rattle.bv_format.specs.declared.fault.FormatFault.{FormatFault}
 use Rattle.bv_format.specs.declared.fault.FormatFault.TheVariants as fault
 use Rattle.bv_format.specs.Answers.{AnswersCounts, AnswersShort}
-use Rattle.bv_format.specs.Formats.{View, Formats}
+use Rattle.bv_device.specs.Seen.{Seen}
+use Rattle.bv_format.specs.Formats.{Formats}
 use Rattle.bv_serve.specs.declared.refusal.Refusal.{Refusal}
 use Rattle.bv_serve.specs.declared.refusal.Refusal.TheVariants.{DeviceFault, Volume}
 use Rattle.bv_serve.specs.declared.status.Status.{Status}
@@ -31,7 +32,7 @@ Reports (Err fault) ended out =
     (ended ≡ refusal_status (refusal_of fault)) × Prints out (refusal_line (refusal_of fault))
 
 -- The making of a volume of these counts; `old` and `new` are the device before and after.
-pub record RunsFormat (g : Geometry) (ended : Status) (old new : View) (input out : Change)
+pub record RunsFormat (g : Geometry) (ended : Status) (old new : Seen) (input out : Change)
     : Type 0 where
   -- what is reported
   pub answer : Result (Unit {0}) FormatFault

@@ -4,7 +4,7 @@ use Rattle.spec_faults.specs.Faults.{Rose}
 use Rattle.spec_record.specs.declared.geometry.Geometry.{Geometry}
 use Rattle.spec_record.specs.Geometry.{total_blocks}
 use Rattle.bv_layout.specs.Counts.{counts_or_fault}
-use Rattle.bv_format.specs.Formats.{View}
+use Rattle.bv_device.specs.Seen.{Seen}
 use Rattle.bv_serve.specs.declared.command.Command.TheVariants.{Root, Format}
 use Rattle.bv_serve.specs.declared.refusal.Refusal.TheVariants.{Usage}
 use Rattle.bv_serve.specs.declared.status.Status.{Status}
@@ -17,7 +17,7 @@ use Rattle.bv_serve.specs.Words.{IsForm, IsNoForm}
 
 -- A run of the top call: its words, its status, and what became of the device, `old` and `new`, and
 -- of the streams.
-pub record Serves (words : List (List ℕ)) (ended : Status) (old new : View) (input out : Change)
+pub record Serves (words : List (List ℕ)) (ended : Status) (old new : Seen) (input out : Change)
     : Type 0 where
   -- words that are no written form, and no others, are refused as such
   pub usage : (ended ≡ status.Usage) ↔ IsNoForm words

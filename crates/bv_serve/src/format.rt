@@ -4,7 +4,6 @@ ghost use Rattle.spec_faults.specs.Faults.{Rose};
 ghost use Rattle.spec_record.specs.Geometry.{total_blocks};
 ghost use Rattle.spec_record.specs.Tests.{IsBetween};
 ghost use Rattle.bv_layout.specs.Counts.{counts_or_fault};
-ghost use Rattle.bv_format.specs.Formats.{view};
 ghost use Rattle.bv_serve.specs.declared.status.Status.TheVariants as status;
 ghost use Rattle.bv_serve.specs.Format.{refusal_of, RunsFormat};
 ghost use Rattle.bv_serve.specs.Runs.{Change, LeavesAlone, change};
@@ -23,14 +22,11 @@ const FORMATTED: &str = "formatted\n";
 pub(crate) fn format<D: Device, K: Sink>(dev: &mut D, geometry: Geometry, out: &mut K) -> Status
     requires { IsBetween 1 geometry.version 2 }
     ensures runs { (input : Change) → LeavesAlone input → RunsFormat geometry result
-        (view (D.told dev.old) (D.block_count dev.old) (D.calls_made dev.old)
-        (D.fault_count dev.old))
-        (view (D.told dev.new) (D.block_count dev.new) (D.calls_made dev.new)
-        (D.fault_count dev.new))
+        (D.seen dev.old) (D.seen dev.new)
         input (change (K.given out.old) (K.given out.new) (K.faults out.old) (K.faults out.new)) }
     ensures complete { counts_or_fault geometry ≡ Ok tt
-        → total_blocks geometry ≤ D.block_count dev.old
-        → ¬ Rose (D.fault_count dev.old) (D.fault_count dev.new)
+        → total_blocks geometry ≤ (D.seen dev.old).block_count
+        → ¬ Rose (D.seen dev.old).fault_count (D.seen dev.new).fault_count
         → ¬ Rose (K.faults out.old) (K.faults out.new) → result ≡ status.Ok }
     ensures untouched { result ≡ status.Volume → dev.new ≡ dev.old }
 {

@@ -1,6 +1,5 @@
 //! The top call.
 ghost use Rattle.std.specs.Prelude.{◌≡◌, map, string_bytes};
-ghost use Rattle.bv_format.specs.Formats.{view};
 ghost use Rattle.bv_serve.specs.Runs.{change};
 ghost use Rattle.bv_serve.specs.Serves.{Serves, LeavesDevice};
 
@@ -23,9 +22,7 @@ pub fn run<D: Device, S: Source, K: Sink>(
     out: &mut K,
 ) -> (Status, D)
     ensures serves { Serves (map string_bytes words.now) result.0
-        (view (D.told dev) (D.block_count dev) (D.calls_made dev) (D.fault_count dev))
-        (view (D.told result.1) (D.block_count result.1) (D.calls_made result.1)
-        (D.fault_count result.1))
+        (D.seen dev) (D.seen result.1)
         (change (S.left input.old) (S.left input.new) (S.faults input.old) (S.faults input.new))
         (change (K.given out.old) (K.given out.new) (K.faults out.old) (K.faults out.new)) }
     ensures untouched { LeavesDevice (map string_bytes words.now) result.0 → result.1 ≡ dev }
@@ -42,9 +39,7 @@ pub fn run_plain<D: Device, S: Source, K: Sink>(
     out: &mut K,
 ) -> (Status, D)
     ensures serves { Serves (map string_bytes words.now) result.0
-        (view (D.told dev) (D.block_count dev) (D.calls_made dev) (D.fault_count dev))
-        (view (D.told result.1) (D.block_count result.1) (D.calls_made result.1)
-        (D.fault_count result.1))
+        (D.seen dev) (D.seen result.1)
         (change (S.left input.old) (S.left input.new) (S.faults input.old) (S.faults input.new))
         (change (K.given out.old) (K.given out.new) (K.faults out.old) (K.faults out.new)) }
     ensures untouched { LeavesDevice (map string_bytes words.now) result.0 → result.1 ≡ dev }

@@ -11,10 +11,9 @@ returns-then-has-wanted-clause-formats g c = Formats-untouched c.args.geometry (
 
 pub returns-in-Ok-clause-formats : goal.returns-in-Ok-clause-formats
 returns-in-Ok-clause-formats g c =
-    Formats-ok c.args.geometry _ _ (search rules) (omega arith) (g.met.D.Device.told_blocks c.args.dev.now)
-    (search rules) (search rules) (search rules) (search rules)
+    Formats-ok c.args.geometry _ _ (search rules) (omega arith) (g.met.D.Device.told_blocks c.args.dev.now) (search rules)
 
 pub returns-in-Err-make_volume-clause-formats : goal.returns-in-Err-make_volume-clause-formats
 returns-in-Err-make_volume-clause-formats g c =
     Formats-err c.args.geometry c.in-Err-make_volume.field-0 c.faults-fault.result _ _ (search rules) (omega arith) (g.met.D.Device.told_blocks c.args.dev.now)
-    (search rules) (search rules) (search rules) (search rules) c.faults-fault.ensures
+    (search rules) c.faults-fault.ensures
