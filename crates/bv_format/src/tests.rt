@@ -166,37 +166,60 @@ fn a_stop_leaves_the_old_head_or_none_or_the_new_volume(rt: HostRuntime) -> Resu
     Ok(())
 }
 
+/// Whether call `nth` of the `calls` of its kind may leave this where it fails, or where, past the
+/// last, none does. The first write and the first sync come before the first Ok sync, and the last
+/// ones make the superblock.
+fn may_leave_failed(nth: u64, calls: u64, case: Left) -> bool {
+    match case {
+        Left::OldHead => nth == 1 && nth <= calls,
+        Left::NoHead => nth <= calls,
+        Left::NewVolume => calls <= nth,
+    }
+}
+
+/// The version, a kind of call, and how many of it `format` makes: one past the last never comes.
+const CALLS: [(u8, CallKind, u64); 6] = [
+    (1, CallKind::Read, 0),
+    (1, CallKind::Write, 20),
+    (1, CallKind::Sync, 3),
+    (2, CallKind::Read, 0),
+    (2, CallKind::Write, 20),
+    (2, CallKind::Sync, 3),
+];
+
 #[test]
 fn a_call_that_fails_is_counted_and_leaves_one_of_the_cases(rt: HostRuntime) -> Result<(), Fail> {
     let alloc = rt.alloc();
-    // the kind of call, and how many of it `format` makes: one past the last never comes
-    let kinds = [
-        (CallKind::Read, 0),
-        (CallKind::Write, 20),
-        (CallKind::Sync, 3),
-    ];
-    for (kind, calls) in kinds {
+    let mut seen = Vec::new(alloc);
+    for (version, kind, calls) in CALLS {
         for nth in 1..calls + 2 {
             let mut dev = device(alloc)?;
             dev.fail(alloc, kind, nth)?;
-            let geometry = wanted(2);
-            assert!(rt; geometry.version == 2);
+            let geometry = wanted(version);
+            assert!(rt; geometry.version == 1 || geometry.version == 2);
             let answer = format(&mut dev, geometry);
-            let (wanted, faults) = if nth <= calls {
-                (Err(FormatFault::DeviceFault { fault: 2 }), 2)
-            } else {
-                (Ok(()), 1)
-            };
-            assert_eq!(rt; answer, wanted, "{kind:?} {nth}");
-            assert_eq!(rt; dev.faults(), faults, "{kind:?} {nth}");
+            let fault = Err(FormatFault::DeviceFault { fault: 2 });
+            let due = if nth <= calls { fault } else { Ok(()) };
+            assert_eq!(rt; answer, due, "{kind:?} {nth}");
+            assert_eq!(rt; dev.faults() == 2, answer.is_err(), "{kind:?} {nth}");
             for choice in CHOICES {
-                let events = dev.trace_len();
-                let mut image = dev.stop_after(alloc, events, choice)?;
-                let case = case_of(&mut image, 2);
-                assert!(rt; matches!(case, Ok(Some(_))), "{kind:?} {nth}: {case:?}");
+                let mut image = dev.stop_after(alloc, dev.trace_len(), choice)?;
+                let case = case_of(&mut image, version);
+                let fits = matches!(case, Ok(Some(case)) if may_leave_failed(nth, calls, case));
+                assert!(rt; fits, "{kind:?} {nth}, {choice:?}: {case:?}");
+                if let Ok(Some(case)) = case {
+                    seen.push(case)?;
+                }
             }
         }
     }
+    let count = |case: Left| seen.iter().filter(|left| **left == case).count();
+    // of each version: the old head 2 times at the first write and the first sync; none 4 times at
+    // 18 writes and a sync, and 2 times at two of each; the new volume 2 times at the last write and
+    // the last sync, and 4 times where nothing fails
+    assert_eq!(rt; count(Left::OldHead), 8);
+    assert_eq!(rt; count(Left::NoHead), 168);
+    assert_eq!(rt; count(Left::NewVolume), 32);
     Ok(())
 }
 
