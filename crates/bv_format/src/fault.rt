@@ -19,7 +19,7 @@ pub enum FormatFault {
         /// The blocks of the device.
         has: u64,
     },
-    /// A write or a sync failed. What the device holds is one of the three cases of a stop.
+    /// A write or a sync failed. A device that was settled holds one of the three cases of a stop.
     DeviceFault {
         /// The device's count of failed calls, right after the one that failed.
         fault: u64,
