@@ -1,5 +1,5 @@
 -- A device that lies, as contracts see it.
-use Rattle.std.specs.Prelude.{ℕ, ◌+◌, ◌-◌, ◌^◌, ◌==◌, min, List, [], ◌∷◌, if◌then◌else◌}
+use Rattle.std.specs.Prelude.{ℕ, ◌==◌, List, [], ◌∷◌, if◌then◌else◌}
 use Rattle.spec_disk.specs.Disk.{Blocks}
 use Rattle.bv_device.specs.declared.lie.Lie.{Lie}
 
@@ -15,7 +15,3 @@ pub record LyingBlocks : Type 0 where
 abbrev pub answer : List Lie → ℕ → List ℕ → List ℕ
 answer [] number held = held
 answer (lie ∷ lies) number held = if lie.call == number then lie.bytes else answer lies number held
-
--- the last number of a u64 stays
-abbrev pub counted : ℕ → ℕ
-counted reads = min (reads + 1) (2 ^ 64 - 1)

@@ -1,7 +1,8 @@
 -- A device in memory, as contracts see it, and what a call makes of it.
-use Rattle.std.specs.Prelude.{◌≡◌, ℕ, ◌+◌, ◌-◌, ◌^◌, ◌<◌, ◌≤◌, min, List, [], ◌∷◌, ◌++◌, ◌⊎◌, length, map, Contains, Bool, true, false, if◌then◌else◌, Result, Ok, Err}
+use Rattle.std.specs.Prelude.{◌≡◌, ℕ, ◌+◌, ◌-◌, ◌^◌, ◌<◌, ◌≤◌, List, [], ◌∷◌, ◌++◌, ◌⊎◌, length, map, Contains, Bool, true, false, if◌then◌else◌, Result, Ok, Err}
 use Rattle.spec_disk.specs.Disk.{Blocks, now_after}
 use Rattle.spec_disk.specs.declared.event.Event.{Event}
+use Rattle.spec_faults.specs.Faults.{one_more}
 use Rattle.bv_device.specs.declared.call_kind.CallKind.{CallKind}
 use Rattle.bv_device.specs.declared.call_kind.CallKind.TheVariants as kind
 use Rattle.bv_device.specs.declared.failed.Failed.{Failed}
@@ -62,10 +63,6 @@ abbrev pub IsLogged : Result Unit Refusal → Event → Disk → Disk → Type 0
 IsLogged (Ok v) e old new = (¬ IsFull old) × (new ≡ extended old (e ∷ []))
 IsLogged (Err Full) e old new = IsFull old × (new ≡ old)
 IsLogged (Err NoMemory) e old new = new ≡ old
-
--- one failure more: the last number of a u64 stays
-abbrev pub one_more : ℕ → ℕ
-one_more count = min (count + 1) (2 ^ 64 - 1)
 
 -- with one event more
 abbrev pub did : HeldDevice → Event → HeldDevice

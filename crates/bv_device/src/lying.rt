@@ -2,8 +2,8 @@
 
 ghost use Rattle.std.specs.Prelude.{◌≡◌, ◌<◌, ◌+◌, ◌-◌, ◌^◌, length, None, IsOk, OnOk, OnErr, slice_set};
 ghost use Rattle.spec_disk.specs.Disk.{block};
-ghost use Rattle.spec_faults.specs.Faults.{CountsFaults};
-ghost use Rattle.bv_device.specs.Lying.{LyingBlocks, answer, counted};
+ghost use Rattle.spec_faults.specs.Faults.{one_more, CountsFaults};
+ghost use Rattle.bv_device.specs.Lying.{LyingBlocks, answer};
 
 use crate::device::LAST_CALL;
 use crate::{Block, Device, Failed, Lie};
@@ -87,7 +87,7 @@ impl Device for LyingDevice {
         ensures ok { IsOk result }
         ensures bytes { into.new
             ≡ answer self.old.lies (self.old.reads + 1) (block self.old.blocks at) }
-        ensures held { self.new ≡ record self.old { reads = counted self.old.reads } }
+        ensures held { self.new ≡ record self.old { reads = one_more self.old.reads } }
     {
         *into = *told(&self.lies, self.reads, &self.blocks[at as usize]);
         self.reads = self.reads.saturating_add(1);
@@ -102,7 +102,7 @@ impl Device for LyingDevice {
         }) }
         ensures end { OnOk result (self.old.calls < 2 ^ 63 - 1) }
         ensures err { OnErr result ((self.old.calls ≡ 2 ^ 63 - 1)
-            × (self.new ≡ record self.old { faults = counted self.old.faults })) }
+            × (self.new ≡ record self.old { faults = one_more self.old.faults })) }
         ensures faults { CountsFaults self.old.faults self.new.faults result }
     {
         if self.calls == LAST_CALL {
@@ -118,7 +118,7 @@ impl Device for LyingDevice {
         ensures ok { OnOk result (self.new ≡ record self.old { calls = self.old.calls + 1 }) }
         ensures end { OnOk result (self.old.calls < 2 ^ 63 - 1) }
         ensures err { OnErr result ((self.old.calls ≡ 2 ^ 63 - 1)
-            × (self.new ≡ record self.old { faults = counted self.old.faults })) }
+            × (self.new ≡ record self.old { faults = one_more self.old.faults })) }
         ensures faults { CountsFaults self.old.faults self.new.faults result }
     {
         if self.calls == LAST_CALL {

@@ -1,5 +1,6 @@
 -- A source and a sink in memory, whose calls fail by a list of numbers.
-use Rattle.std.specs.Prelude.{ℕ, ◌+◌, ◌-◌, ◌^◌, min, List, Contains}
+use Rattle.std.specs.Prelude.{ℕ, List, Contains}
+use Rattle.spec_faults.specs.Faults.{one_more}
 
 -- a source in memory: the bytes not yet taken, the numbers of the calls that fail, the calls made,
 -- and those that failed
@@ -17,10 +18,6 @@ pub record HeldSink : Type 0 where
   pub faults : ℕ
   pub short : ℕ
 
--- the number of the next call, from 1, or a count with one more; the last number of a `u64` stays
-abbrev pub next_call : ℕ → ℕ
-next_call calls = min (calls + 1) (2 ^ 64 - 1)
-
--- the next call is one that fails: its number is named
+-- the next call is one that fails: its number, counted from 1, is named
 abbrev pub IsNamed : List ℕ → ℕ → Type 0
-IsNamed fails calls = Contains fails (next_call calls)
+IsNamed fails calls = Contains fails (one_more calls)

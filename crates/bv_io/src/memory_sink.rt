@@ -1,7 +1,7 @@
 //! A sink that keeps its bytes in memory, whose calls fail where it was told so.
 ghost use Rattle.std.specs.Prelude.{◌≡◌, ◌⊎◌, ◌≤◌, [], ◌++◌, length, Some, IfOk, OnOk, OnErr, IsErr};
-ghost use Rattle.bv_io.specs.Faults.{CountsFaults};
-ghost use Rattle.bv_io.specs.Memory.{HeldSink, IsNamed, next_call};
+ghost use Rattle.bv_io.specs.Faults.{one_more, CountsFaults};
+ghost use Rattle.bv_io.specs.Memory.{HeldSink, IsNamed};
 
 use crate::schedule::Schedule;
 use crate::{Failed, Sink};
@@ -71,12 +71,12 @@ impl Sink for MemSink {
         ensures named { IsNamed self.old.fails self.old.calls
             → IsErr result × (self.new.short ≡ self.old.short) }
         ensures cause { OnErr result (IsNamed self.old.fails self.old.calls
-            ⊎ (self.new.short ≡ next_call self.old.short)) }
+            ⊎ (self.new.short ≡ one_more self.old.short)) }
         ensures short { OnOk result (self.new.short ≡ self.old.short) }
-        ensures calls { self.new.calls ≡ next_call self.old.calls }
+        ensures calls { self.new.calls ≡ one_more self.old.calls }
         ensures fails { self.new.fails ≡ self.old.fails }
         ensures faults { CountsFaults self.old.faults self.new.faults result }
-        ensures counted { OnErr result (self.new.faults ≡ next_call self.old.faults) }
+        ensures counted { OnErr result (self.new.faults ≡ one_more self.old.faults) }
     {
         if self.schedule.fails_next() {
             self.faults = self.faults.saturating_add(1);

@@ -1,9 +1,9 @@
 //! A source over bytes in memory, whose calls fail where it was told so.
 ghost use Rattle.std.specs.Prelude.{◌≡◌, ◌↔◌, ◌≤◌, [], min, drop, length, Some, IfOk, OnErr, IsErr};
 ghost use Rattle.std.specs.Io.KnownBytes.{Keeps};
-ghost use Rattle.bv_io.specs.Faults.{CountsFaults};
+ghost use Rattle.bv_io.specs.Faults.{one_more, CountsFaults};
 ghost use Rattle.bv_io.specs.Streams.{Takes};
-ghost use Rattle.bv_io.specs.Memory.{HeldSource, IsNamed, next_call};
+ghost use Rattle.bv_io.specs.Memory.{HeldSource, IsNamed};
 
 use crate::schedule::Schedule;
 use crate::{Failed, Source};
@@ -56,10 +56,10 @@ impl Source for MemSource {
         ensures all { IfOk result (λ n. n ≡ min (length into.old) (length self.old.left)) }
         ensures err { OnErr result (self.new.left ≡ self.old.left) }
         ensures named { IsErr result ↔ IsNamed self.old.fails self.old.calls }
-        ensures calls { self.new.calls ≡ next_call self.old.calls }
+        ensures calls { self.new.calls ≡ one_more self.old.calls }
         ensures fails { self.new.fails ≡ self.old.fails }
         ensures faults { CountsFaults self.old.faults self.new.faults result }
-        ensures counted { OnErr result (self.new.faults ≡ next_call self.old.faults) }
+        ensures counted { OnErr result (self.new.faults ≡ one_more self.old.faults) }
     {
         if self.schedule.fails_next() {
             self.faults = self.faults.saturating_add(1);

@@ -1,6 +1,7 @@
 //! Which calls of a stream in memory are to fail.
 ghost use Rattle.std.specs.Prelude.{◌≡◌, ◌↔◌, IsTrue};
-ghost use Rattle.bv_io.specs.Memory.{next_call, IsNamed};
+ghost use Rattle.bv_io.specs.Faults.{one_more};
+ghost use Rattle.bv_io.specs.Memory.{IsNamed};
 
 /// Counts the calls of an object, and fails those that it was told to.
 ///
@@ -15,7 +16,7 @@ impl Schedule {
     /// Counts one call, and says whether it is to fail.
     pub fn fails_next(&mut self) -> bool
         ensures named { IsTrue result ↔ IsNamed self.old.fails.items self.old.calls }
-        ensures calls { self.new.calls ≡ next_call self.old.calls }
+        ensures calls { self.new.calls ≡ one_more self.old.calls }
         ensures fails { self.new.fails ≡ self.old.fails }
     {
         self.calls = self.calls.saturating_add(1);

@@ -1,9 +1,13 @@
 -- Counts of failed calls, by which a caller sees that an object failed and no body made it up.
 use Rattle.std.specs.Prelude.{◌≡◌, ℕ, ◌+◌, ◌-◌, ◌^◌, ◌≤◌, min, Result, OnOk, OnErr}
 
--- A count has risen. At the top of a `u64` it stands still, and each further failure is a rise.
+-- a count with one more: at the top of a `u64` it stands still
+abbrev pub one_more : ℕ → ℕ
+one_more count = min (count + 1) (2 ^ 64 - 1)
+
+-- A count has risen. At its top, where it stands still, each further failure is a rise.
 abbrev pub Rose : ℕ → ℕ → Type 0
-Rose before now = min (before + 1) (2 ^ 64 - 1) ≤ now
+Rose before now = one_more before ≤ now
 
 -- The count never falls, an error comes only where it rose, and none is passed over at `Ok`.
 pub record CountsFaults {T E : Type 0} (before now : ℕ) (result : Result T E) : Type 0 where
