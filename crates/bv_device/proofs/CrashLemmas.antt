@@ -5,12 +5,13 @@ use Rattle.std.proofs.Math.Seq.{take-append-add, take-append_seam}
 use Rattle.std.proofs.lemmas.Bool.{cases_lt}
 use Rattle.spec_disk.specs.declared.event.Event.{Event}
 use Rattle.spec_disk.specs.declared.event.Event.TheVariants.{Write, Sync}
+use Rattle.spec_disk.specs.Disk.{Blocks}
 use Rattle.spec_disk.specs.Images.{IsImage}
 use Rattle.spec_disk.proofs.EventLemmas.{candidates-push_write, candidates-push_failed_sync}
 use Rattle.spec_disk.proofs.ImageLemmas.{image-same_candidates}
 use Rattle.bv_device.specs.Told.{Disk, extended, with_event}
 use Rattle.bv_device.specs.Plan.{IsPlan, failed, with_events, CutShort, Follows}
-use Rattle.bv_device.specs.Crash.{Leaves, Crash, Ran, LeftByPlan, Walks, EachKeeps}
+use Rattle.bv_device.specs.Crash.{Leaves, Crash, Ran, LeftByPlan}
 use Rattle.bv_device.proofs.PlanLemmas.{extended-nil, extended-append, with_events-some, IsPlan-tail}
 
 -- a property that doesn't get harder with time
@@ -122,6 +123,16 @@ Ran-left_by_plan r d plan new planned f =
     Ran-plan r d plan (Some d) new (LeftByPlan d plan) (λ k j l. (l.0, omega (arith, l.1), l.2, l.3)) planned (λ k le j i. (k, omega arith, le, i)) refl f
 
 -- A walk along a plan
+
+-- whatever a stop leaves before the plan has P n, after its first event P (n + 1), and so on
+abbrev pub Walks : Disk → List Event → (ℕ → Blocks → Type 0) → ℕ → Type 0
+Walks d [] P n = Leaves d (P n)
+Walks d (e ∷ plan) P n = Leaves d (P n) × Walks (extended d (e ∷ [])) plan P (n + 1)
+
+-- each event of the plan keeps S
+abbrev pub EachKeeps : (Disk → Type 0) → List Event → Type 0
+EachKeeps S [] = Unit {0}
+EachKeeps S (e ∷ plan) = ((d : Disk) → S d → S (extended d (e ∷ []))) × EachKeeps S plan
 
 pub Walks-each : (d : Disk) (plan : List Event) (P : ℕ → List (List ℕ) → Type 0) (n k : ℕ) → Walks d plan P n → k ≤ length plan → Leaves (extended d (take k plan)) (P (n + k))
 Walks-each d [] P n zero w le j i = let e : n ≡ n + 0 = omega arith in subst (λ (x : ℕ). P x j) e (w j (subst (λ (x : Disk). IsImage x.base x.trace j) (extended-nil d) i))

@@ -1,5 +1,5 @@
 -- What each stop of a run leaves: stops after any number of its events, also before the first and after the last.
-use Rattle.std.specs.Prelude.{◌≡◌, ◌≤◌, ℕ, ◌+◌, List, [], ◌∷◌, length, take, Option, Some}
+use Rattle.std.specs.Prelude.{◌≡◌, ◌≤◌, ℕ, List, length, take, Option, Some}
 use Rattle.spec_disk.specs.declared.event.Event.{Event}
 use Rattle.spec_disk.specs.Disk.{Blocks}
 use Rattle.bv_device.specs.Told.{Disk, MayLeave, extended}
@@ -21,13 +21,3 @@ pub record Ran (d : Disk) (told : Option Disk) (P : ℕ → Blocks → Type 0) :
 -- whatever a stop of a run leaves after k events, a stop of the plan leaves after at most k
 abbrev pub LeftByPlan : Disk → List Event → ℕ → Blocks → Type 0
 LeftByPlan d plan k j = (m : ℕ) × (m ≤ k) × (m ≤ length plan) × MayLeave (extended d (take m plan)) j
-
--- whatever a stop leaves before the plan has P n, after its first event P (n + 1), and so on
-abbrev pub Walks : Disk → List Event → (ℕ → Blocks → Type 0) → ℕ → Type 0
-Walks d [] P n = Leaves d (P n)
-Walks d (e ∷ plan) P n = Leaves d (P n) × Walks (extended d (e ∷ [])) plan P (n + 1)
-
--- each event of the plan keeps S
-abbrev pub EachKeeps : (Disk → Type 0) → List Event → Type 0
-EachKeeps S [] = Unit {0}
-EachKeeps S (e ∷ plan) = ((d : Disk) → S d → S (extended d (e ∷ []))) × EachKeeps S plan

@@ -18,8 +18,8 @@ use Rattle.spec_crash.specs.Format.{head, HasOldHead, HasNoHead, IsEmptyVolume, 
 use Rattle.spec_crash.proofs.FormatLemmas.{head-refused}
 use Rattle.bv_device.specs.Told.{Disk, extended}
 use Rattle.bv_device.specs.Plan.{writes, a_sync}
-use Rattle.bv_device.specs.Crash.{Leaves, Walks, EachKeeps}
-use Rattle.bv_device.proofs.CrashLemmas.{Crash-walk, Walks-append, Walks-kept, EachKeeps-end}
+use Rattle.bv_device.specs.Crash.{Leaves}
+use Rattle.bv_device.proofs.CrashLemmas.{Walks, EachKeeps, Crash-walk, Walks-append, Walks-kept, EachKeeps-end}
 use Rattle.bv_format.specs.Plan.{behind_plan, super_plan, format_plan}
 use Rattle.spec_image.proofs.EmptyLemmas.{BeginsEmpty-is}
 use Rattle.bv_format.proofs.SuperLemmas.{super-other_sectors}
