@@ -9,7 +9,7 @@ use Rattle.std.specs.Int.Bits.{xor_zero_l, xor_zero_r, xor_assoc}
 use Rattle.spec_record.specs.Field.{IsBytes}
 use Rattle.spec_record.specs.Crc.{crc_step, crc_register, crc32, message_bits, bits_of}
 use Rattle.spec_record.proofs.FieldLemmas.{IsBytes-rest, IsBytes-part}
-use Rattle.bv_bytes.specs.Crc.{shifts, continued}
+use Rattle.bv_bytes.specs.Crc.{shifts, crc_after}
 use Rattle.bv_bytes.proofs.StepLemmas.{shifts_linear, shifts-add, shifts_split, bits_at_once}
 
 pub register-append : (xs ys : List ℕ) (register : ℕ) → crc_register register (xs ++ ys) ≡ crc_register (crc_register register xs) ys
@@ -185,9 +185,9 @@ register_next xs i register byte lt is =
     ∙ ap (crc_register register) (sym (message_bits-append (byte ∷ []) (drop (i + 1) xs)) ∙ ap message_bits (sym here))
 
 -- more bytes after a message
-pub continued_message : (message bytes : List ℕ) → continued (crc32 message) bytes ≡ crc32 (message ++ bytes)
+pub crc_after_message : (message bytes : List ℕ) → crc_after (crc32 message) bytes ≡ crc32 (message ++ bytes)
 unfolding crc32
-continued_message message bytes =
+crc_after_message message bytes =
     let turned : bit_xor (bit_xor (crc_register 0xFFFFFFFF (message_bits message)) 0xFFFFFFFF) 0xFFFFFFFF ≡ crc_register 0xFFFFFFFF (message_bits message) =
     xor_assoc (crc_register 0xFFFFFFFF (message_bits message)) 0xFFFFFFFF 0xFFFFFFFF ∙ xor_zero_r (crc_register 0xFFFFFFFF (message_bits message)) in
     ap (λ (n : ℕ). bit_xor n 0xFFFFFFFF) (

@@ -8,6 +8,6 @@ shifts zero register = register
 shifts (suc steps) register = shifts steps (crc_step register 0)
 
 -- the CRC-32 of a message and then these bytes, where the message has this CRC-32
-abbrev pub continued : ℕ → List ℕ → ℕ
-continued crc bytes =
+abbrev pub crc_after : ℕ → List ℕ → ℕ
+crc_after crc bytes =
     bit_xor (crc_register (bit_xor crc 0xFFFFFFFF) (message_bits bytes)) 0xFFFFFFFF

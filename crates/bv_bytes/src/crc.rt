@@ -1,7 +1,7 @@
 //! CRC-32 over tables of 256 words, eight bytes a turn.
 ghost use Rattle.std.specs.Prelude.{◌≡◌, ℕ, ◌+◌, ◌*◌, ◌<◌, List, [], ◌∷◌, ◌++◌, length};
 ghost use Rattle.spec_record.specs.Crc.{crc32 as crc32_of, crc_register, message_bits};
-ghost use Rattle.bv_bytes.specs.Crc.{shifts, continued};
+ghost use Rattle.bv_bytes.specs.Crc.{shifts, crc_after};
 
 /// A table of all bytes' words, from the words of the eight bits, the lowest first: the word of a
 /// byte is the exclusive or of its bits' words.
@@ -84,7 +84,7 @@ fn after_one(register: u32, byte: u8) -> u32
 /// The CRC-32 of a message and then `bytes`, where the message's own is `crc`; 0 is that of no
 /// bytes.
 pub fn crc_more(crc: u32, bytes: &[u8]) -> u32
-    ensures more { result ≡ continued crc bytes.now }
+    ensures more { result ≡ crc_after crc bytes.now }
     ensures message { (message : List ℕ) → crc ≡ crc32_of message
         → result ≡ crc32_of (message ++ bytes.now) }
 {

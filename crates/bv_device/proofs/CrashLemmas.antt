@@ -9,10 +9,10 @@ use Rattle.spec_disk.specs.Disk.{Blocks}
 use Rattle.spec_disk.specs.Images.{IsImage}
 use Rattle.spec_disk.proofs.EventLemmas.{candidates-push_write, candidates-push_failed_sync}
 use Rattle.spec_disk.proofs.ImageLemmas.{image-same_candidates}
-use Rattle.bv_device.specs.Told.{Disk, extended, with_event}
-use Rattle.bv_device.specs.Plan.{IsPlan, failed, with_events, CutShort, Follows}
+use Rattle.bv_device.specs.Told.{Disk, disk_with, with_event}
+use Rattle.bv_device.specs.Plan.{IsPlan, failed_event, with_events, CutShort, Follows}
 use Rattle.bv_device.specs.Crash.{Leaves, Crash, Ran, LeftByPlan}
-use Rattle.bv_device.proofs.PlanLemmas.{extended-nil, extended-append, with_events-some, IsPlan-tail}
+use Rattle.bv_device.proofs.PlanLemmas.{disk_with-nil, disk_with-append, with_events-some, IsPlan-tail}
 
 -- a property that doesn't get harder with time
 abbrev pub Lasts : (ℕ → List (List ℕ) → Type 0) → Type 0
@@ -23,10 +23,10 @@ Lasts P = (k : ℕ) (j : List (List ℕ)) → P k j → P (k + 1) j
 pub Crash-none : (d : Disk) (P : ℕ → List (List ℕ) → Type 0) → Leaves d (P 0) → Crash d [] P
 Crash-none d P h k le =
     let z : k ≡ 0 = omega arith in
-    subst (λ (n : ℕ). Leaves (extended d (take n [])) (P n)) (sym z) (subst (λ (e : Disk). Leaves e (P 0)) (sym (extended-nil d)) h)
+    subst (λ (n : ℕ). Leaves (disk_with d (take n [])) (P n)) (sym z) (subst (λ (e : Disk). Leaves e (P 0)) (sym (disk_with-nil d)) h)
 
 pub Crash-more : (d : Disk) (p : List Event) (e : Event) (P : ℕ → List (List ℕ) → Type 0) → Crash d p P
-    → Leaves (extended d (p ++ e ∷ [])) (P (length p + 1)) → Crash d (p ++ e ∷ []) P
+    → Leaves (disk_with d (p ++ e ∷ [])) (P (length p + 1)) → Crash d (p ++ e ∷ []) P
 Crash-more d p e P c h k le j i =
     elim (cases_lt (length p) k) [
       | inl lt ↦
@@ -37,7 +37,7 @@ Crash-more d p e P c h k le j i =
     ]
 
 pub Crash-append : (d : Disk) (p q : List Event) (P : ℕ → List (List ℕ) → Type 0) → Crash d p P
-    → Crash (extended d p) q (λ k j. 0 < k → P (length p + k) j) → Crash d (p ++ q) P
+    → Crash (disk_with d p) q (λ k j. 0 < k → P (length p + k) j) → Crash d (p ++ q) P
 Crash-append d p q P a b k le j i =
     elim (cases_lt (length p) k) [
       | inl lt ↦
@@ -59,7 +59,7 @@ Crash-front d p q P c k le j i =
     c k (omega (arith, length-append p q, le)) j (subst (λ (t : List Event). IsImage d.base (d.trace ++ t) j) (sym (take-append-le k p q le)) i)
 
 -- the stop after a first part
-pub Crash-at : (d : Disk) (p q : List Event) (P : ℕ → List (List ℕ) → Type 0) → Crash d (p ++ q) P → Leaves (extended d p) (P (length p))
+pub Crash-at : (d : Disk) (p q : List Event) (P : ℕ → List (List ℕ) → Type 0) → Crash d (p ++ q) P → Leaves (disk_with d p) (P (length p))
 Crash-at d p q P c j i =
     c (length p) (omega (arith, length-append p q)) j (subst (λ (t : List Event). IsImage d.base (d.trace ++ t) j) (sym (take-append_seam p q)) i)
 
@@ -77,7 +77,7 @@ image-failed_sync base p j i = image-same_candidates base (p ++ Sync false ∷ [
 
 -- the call that fails after a first part
 Leaves-failed : (d : Disk) (before : List Event) (e : Event) (plan : List Event) (P : ℕ → List (List ℕ) → Type 0) → Lasts P → IsPlan (e ∷ plan)
-    → Crash d (before ++ e ∷ plan) P → Leaves (extended d (before ++ failed e ∷ [])) (P (length before + 1))
+    → Crash d (before ++ e ∷ plan) P → Leaves (disk_with d (before ++ failed_event e ∷ [])) (P (length before + 1))
 Leaves-failed d before (Write at bytes true) plan P lasts planned c j i =
     let image : IsImage d.base (d.trace ++ (before ++ Write at bytes true ∷ [])) j =
     subst (λ (t : List Event). IsImage d.base t j) (append_assoc d.trace before (Write at bytes true ∷ [])) (image-failed_write d.base (d.trace ++ before) at bytes j (subst (λ (t : List Event). IsImage d.base t j) (sym (append_assoc d.trace before (Write at bytes false ∷ []))) i)) in
@@ -90,17 +90,17 @@ Leaves-failed d before (Sync true) plan P lasts planned c j i =
 Leaves-failed d before (Sync false) plan P lasts planned c j i = absurd planned
 
 Ran-cut_from : (d : Disk) (before plan : List Event) (new : Option Disk) (P : ℕ → List (List ℕ) → Type 0) → Lasts P → IsPlan plan
-    → Crash d (before ++ plan) P → CutShort plan (Some (extended d before)) new → Ran d new P
+    → Crash d (before ++ plan) P → CutShort plan (Some (disk_with d before)) new → Ran d new P
 Ran-cut_from d before [] new P lasts planned c cut = absurd cut
 Ran-cut_from d before (e ∷ plan) new P lasts planned c cut =
-    let some_is : (x : Event) → with_event (Some (extended d before)) x ≡ Some (extended d (before ++ x ∷ [])) = λ x. ap (λ (y : Disk). Some y) (extended-append d before (x ∷ [])) in
+    let some_is : (x : Event) → with_event (Some (disk_with d before)) x ≡ Some (disk_with d (before ++ x ∷ [])) = λ x. ap (λ (y : Disk). Some y) (disk_with-append d before (x ∷ [])) in
     elim cut [
       | inl same ↦ record { events = before; is = same; crash = Crash-front d before (e ∷ plan) P c }
       | inr more ↦ elim more [
         | inl f ↦ record {
-          events = before ++ failed e ∷ [];
-          is = f ∙ some_is (failed e);
-          crash = Crash-more d before (failed e) P (Crash-front d before (e ∷ plan) P c) (Leaves-failed d before e plan P lasts planned c);
+          events = before ++ failed_event e ∷ [];
+          is = f ∙ some_is (failed_event e);
+          crash = Crash-more d before (failed_event e) P (Crash-front d before (e ∷ plan) P c) (Leaves-failed d before e plan P lasts planned c);
         }
         | inr on ↦ Ran-cut_from d (before ++ e ∷ []) plan new P lasts (IsPlan-tail e plan planned)
             (subst (λ (t : List Event). Crash d t P) (sym (append_assoc before (e ∷ []) plan)) c)
@@ -115,7 +115,7 @@ Ran-plan (Ok v) d plan old new P lasts planned c is f =
     record { events = plan; is = f ∙ ap (λ (o : Option Disk). with_events o plan) is ∙ with_events-some d plan; crash = c }
 Ran-plan (Err x) d plan old new P lasts planned c is f =
     Ran-cut_from d [] plan new P lasts planned c
-    (subst (λ (y : Disk). CutShort plan (Some y) new) (sym (extended-nil d)) (subst (λ (o : Option Disk). CutShort plan o new) is f))
+    (subst (λ (y : Disk). CutShort plan (Some y) new) (sym (disk_with-nil d)) (subst (λ (o : Option Disk). CutShort plan o new) is f))
 
 -- The same with no property: whatever a stop of the run leaves, a stop of the plan leaves, and not later.
 pub Ran-left_by_plan : {T E : Type 0} (r : Result T E) (d : Disk) (plan : List Event) (new : Option Disk) → IsPlan plan → Follows r plan (Some d) new → Ran d new (LeftByPlan d plan)
@@ -127,63 +127,63 @@ Ran-left_by_plan r d plan new planned f =
 -- whatever a stop leaves before the plan has P n, after its first event P (n + 1), and so on
 abbrev pub Walks : Disk → List Event → (ℕ → Blocks → Type 0) → ℕ → Type 0
 Walks d [] P n = Leaves d (P n)
-Walks d (e ∷ plan) P n = Leaves d (P n) × Walks (extended d (e ∷ [])) plan P (n + 1)
+Walks d (e ∷ plan) P n = Leaves d (P n) × Walks (disk_with d (e ∷ [])) plan P (n + 1)
 
 -- each event of the plan keeps S
 abbrev pub EachKeeps : (Disk → Type 0) → List Event → Type 0
 EachKeeps S [] = Unit {0}
-EachKeeps S (e ∷ plan) = ((d : Disk) → S d → S (extended d (e ∷ []))) × EachKeeps S plan
+EachKeeps S (e ∷ plan) = ((d : Disk) → S d → S (disk_with d (e ∷ []))) × EachKeeps S plan
 
-pub Walks-each : (d : Disk) (plan : List Event) (P : ℕ → List (List ℕ) → Type 0) (n k : ℕ) → Walks d plan P n → k ≤ length plan → Leaves (extended d (take k plan)) (P (n + k))
-Walks-each d [] P n zero w le j i = let e : n ≡ n + 0 = omega arith in subst (λ (x : ℕ). P x j) e (w j (subst (λ (x : Disk). IsImage x.base x.trace j) (extended-nil d) i))
+pub Walks-each : (d : Disk) (plan : List Event) (P : ℕ → List (List ℕ) → Type 0) (n k : ℕ) → Walks d plan P n → k ≤ length plan → Leaves (disk_with d (take k plan)) (P (n + k))
+Walks-each d [] P n zero w le j i = let e : n ≡ n + 0 = omega arith in subst (λ (x : ℕ). P x j) e (w j (subst (λ (x : Disk). IsImage x.base x.trace j) (disk_with-nil d) i))
 Walks-each d [] P n (suc k) w le j i = absurd (omega (arith, le))
-Walks-each d (e ∷ plan) P n zero w le j i = let e : n ≡ n + 0 = omega arith in subst (λ (x : ℕ). P x j) e (w.0 j (subst (λ (x : Disk). IsImage x.base x.trace j) (extended-nil d) i))
+Walks-each d (e ∷ plan) P n zero w le j i = let e : n ≡ n + 0 = omega arith in subst (λ (x : ℕ). P x j) e (w.0 j (subst (λ (x : Disk). IsImage x.base x.trace j) (disk_with-nil d) i))
 Walks-each d (e ∷ plan) P n (suc k) w le j i =
     let time : (n + 1) + k ≡ n + suc k = omega arith in
-    subst (λ (x : ℕ). P x j) time (Walks-each (extended d (e ∷ [])) plan P (n + 1) k (w.1) (omega (arith, le)) j (subst (λ (t : List Event). IsImage d.base t j) (sym (append_assoc d.trace (e ∷ []) (take k plan))) i))
+    subst (λ (x : ℕ). P x j) time (Walks-each (disk_with d (e ∷ [])) plan P (n + 1) k (w.1) (omega (arith, le)) j (subst (λ (t : List Event). IsImage d.base t j) (sym (append_assoc d.trace (e ∷ []) (take k plan))) i))
 
 pub Crash-walk : (d : Disk) (plan : List Event) (P : ℕ → List (List ℕ) → Type 0) → Walks d plan P 0 → Crash d plan P
-Crash-walk d plan P w k le = subst (λ (n : ℕ). Leaves (extended d (take k plan)) (P n)) (omega arith) (Walks-each d plan P 0 k w le)
+Crash-walk d plan P w k le = subst (λ (n : ℕ). Leaves (disk_with d (take k plan)) (P n)) (omega arith) (Walks-each d plan P 0 k w le)
 
-pub Walks-append : (d : Disk) (p q : List Event) (P : ℕ → List (List ℕ) → Type 0) (n : ℕ) → Walks d p P n → Walks (extended d p) q P (n + length p) → Walks d (p ++ q) P n
+pub Walks-append : (d : Disk) (p q : List Event) (P : ℕ → List (List ℕ) → Type 0) (n : ℕ) → Walks d p P n → Walks (disk_with d p) q P (n + length p) → Walks d (p ++ q) P n
 Walks-append d [] q P n v w =
-    let same : Walks d q P (n + 0) = subst (λ (x : Disk). Walks x q P (n + 0)) (extended-nil d) w in
+    let same : Walks d q P (n + 0) = subst (λ (x : Disk). Walks x q P (n + 0)) (disk_with-nil d) w in
     subst (λ (m : ℕ). Walks d q P m) (omega arith) same
 Walks-append d (e ∷ p) q P n v w =
-    let later : Walks (extended d (e ∷ p)) q P ((n + 1) + length p) = subst (λ (m : ℕ). Walks (extended d (e ∷ p)) q P m) (omega arith) w in
-    (v.0, Walks-append (extended d (e ∷ [])) p q P (n + 1) (v.1) (subst (λ (x : Disk). Walks x q P ((n + 1) + length p)) (sym (extended-append d (e ∷ []) p)) later))
+    let later : Walks (disk_with d (e ∷ p)) q P ((n + 1) + length p) = subst (λ (m : ℕ). Walks (disk_with d (e ∷ p)) q P m) (omega arith) w in
+    (v.0, Walks-append (disk_with d (e ∷ [])) p q P (n + 1) (v.1) (subst (λ (x : Disk). Walks x q P ((n + 1) + length p)) (sym (disk_with-append d (e ∷ []) p)) later))
 
 -- Where P is the same at each time, the time at the start doesn't matter.
 pub Walks-at : (d : Disk) (plan : List Event) (P : List (List ℕ) → Type 0) (n m : ℕ) → Walks d plan (λ _. P) n → Walks d plan (λ _. P) m
 Walks-at d [] P n m w = w
-Walks-at d (e ∷ plan) P n m w = (w.0, Walks-at (extended d (e ∷ [])) plan P (n + 1) (m + 1) (w.1))
+Walks-at d (e ∷ plan) P n m w = (w.0, Walks-at (disk_with d (e ∷ [])) plan P (n + 1) (m + 1) (w.1))
 
 -- a state that each event keeps
 pub Walks-kept : (S : Disk → Type 0) (P : List (List ℕ) → Type 0) (d : Disk) (plan : List Event) (n : ℕ) → ((x : Disk) → S x → Leaves x P) → EachKeeps S plan → S d → Walks d plan (λ _. P) n
 Walks-kept S P d [] n leaves keeps s = leaves d s
-Walks-kept S P d (e ∷ plan) n leaves keeps s = (leaves d s, Walks-kept S P (extended d (e ∷ [])) plan (n + 1) leaves (keeps.1) (keeps.0 d s))
+Walks-kept S P d (e ∷ plan) n leaves keeps s = (leaves d s, Walks-kept S P (disk_with d (e ∷ [])) plan (n + 1) leaves (keeps.1) (keeps.0 d s))
 
-pub EachKeeps-end : (S : Disk → Type 0) (d : Disk) (plan : List Event) → EachKeeps S plan → S d → S (extended d plan)
-EachKeeps-end S d [] keeps s = subst S (sym (extended-nil d)) s
-EachKeeps-end S d (e ∷ plan) keeps s = subst S (extended-append d (e ∷ []) plan) (EachKeeps-end S (extended d (e ∷ [])) plan (keeps.1) (keeps.0 d s))
+pub EachKeeps-end : (S : Disk → Type 0) (d : Disk) (plan : List Event) → EachKeeps S plan → S d → S (disk_with d plan)
+EachKeeps-end S d [] keeps s = subst S (sym (disk_with-nil d)) s
+EachKeeps-end S d (e ∷ plan) keeps s = subst S (disk_with-append d (e ∷ []) plan) (EachKeeps-end S (disk_with d (e ∷ [])) plan (keeps.1) (keeps.0 d s))
 
 -- Runs, one after another
 
 pub Ran-none : (d : Disk) (told : Option Disk) (P : ℕ → List (List ℕ) → Type 0) → told ≡ Some d → Leaves d (P 0) → Ran d told P
-Ran-none d told P is h = record { events = []; is = is ∙ ap (λ (e : Disk). Some e) (sym (extended-nil d)); crash = Crash-none d P h }
+Ran-none d told P is h = record { events = []; is = is ∙ ap (λ (e : Disk). Some e) (sym (disk_with-nil d)); crash = Crash-none d P h }
 
 pub Ran-more : (d : Disk) (old new : Option Disk) (e : Event) (P : ℕ → List (List ℕ) → Type 0) → (r : Ran d old P) → new ≡ with_event old e
-    → Leaves (extended d (r.events ++ e ∷ [])) (P (length r.events + 1)) → Ran d new P
+    → Leaves (disk_with d (r.events ++ e ∷ [])) (P (length r.events + 1)) → Ran d new P
 Ran-more d old new e P r is h = record {
   events = r.events ++ e ∷ [];
-  is = is ∙ ap (λ (o : Option Disk). with_event o e) r.is ∙ ap (λ (x : Disk). Some x) (extended-append d r.events (e ∷ []));
+  is = is ∙ ap (λ (o : Option Disk). with_event o e) r.is ∙ ap (λ (x : Disk). Some x) (disk_with-append d r.events (e ∷ []));
   crash = Crash-more d r.events e P r.crash h;
 }
 
 pub Ran-then : (d : Disk) (old new : Option Disk) (P : ℕ → List (List ℕ) → Type 0) → (r : Ran d old P)
-    → Ran (extended d r.events) new (λ k j. 0 < k → P (length r.events + k) j) → Ran d new P
+    → Ran (disk_with d r.events) new (λ k j. 0 < k → P (length r.events + k) j) → Ran d new P
 Ran-then d old new P r q = record {
   events = r.events ++ q.events;
-  is = q.is ∙ ap (λ (x : Disk). Some x) (extended-append d r.events q.events);
+  is = q.is ∙ ap (λ (x : Disk). Some x) (disk_with-append d r.events q.events);
   crash = Crash-append d r.events q.events P r.crash q.crash;
 }

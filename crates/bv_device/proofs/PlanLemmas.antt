@@ -3,24 +3,24 @@ use Rattle.std.proofs.Common.{◌≡◌, ◌<◌, ℕ, suc, ◌+◌, ◌-◌, Li
 use Rattle.std.proofs.lemmas.List.{append_assoc, append-nil}
 use Rattle.spec_disk.specs.declared.event.Event.{Event}
 use Rattle.spec_disk.specs.declared.event.Event.TheVariants.{Write, Sync}
-use Rattle.bv_device.specs.Told.{Disk, extended, with_event}
+use Rattle.bv_device.specs.Told.{Disk, disk_with, with_event}
 use Rattle.bv_device.specs.Plan.{writes, IsPlan, with_events, CutShort, Follows}
 
 -- Disks with events more
 
-pub extended-nil : (d : Disk) → extended d [] ≡ d
-extended-nil d = ap (λ (t : List Event). let r : Disk = record { base = d.base; trace = t } in r) (append-nil d.trace)
+pub disk_with-nil : (d : Disk) → disk_with d [] ≡ d
+disk_with-nil d = ap (λ (t : List Event). let r : Disk = record { base = d.base; trace = t } in r) (append-nil d.trace)
 
-pub extended-append : (d : Disk) (p q : List Event) → extended (extended d p) q ≡ extended d (p ++ q)
-extended-append d p q = ap (λ (t : List Event). let r : Disk = record { base = d.base; trace = t } in r) (append_assoc d.trace p q)
+pub disk_with-append : (d : Disk) (p q : List Event) → disk_with (disk_with d p) q ≡ disk_with d (p ++ q)
+disk_with-append d p q = ap (λ (t : List Event). let r : Disk = record { base = d.base; trace = t } in r) (append_assoc d.trace p q)
 
 pub with_events-append : (told : Option Disk) (p q : List Event) → with_events told (p ++ q) ≡ with_events (with_events told p) q
 with_events-append told [] q = refl
 with_events-append told (e ∷ p) q = with_events-append (with_event told e) p q
 
-pub with_events-some : (d : Disk) (p : List Event) → with_events (Some d) p ≡ Some (extended d p)
-with_events-some d [] = ap (λ (e : Disk). Some e) (sym (extended-nil d))
-with_events-some d (e ∷ p) = with_events-some (extended d (e ∷ [])) p ∙ ap (λ (x : Disk). Some x) (extended-append d (e ∷ []) p)
+pub with_events-some : (d : Disk) (p : List Event) → with_events (Some d) p ≡ Some (disk_with d p)
+with_events-some d [] = ap (λ (e : Disk). Some e) (sym (disk_with-nil d))
+with_events-some d (e ∷ p) = with_events-some (disk_with d (e ∷ [])) p ∙ ap (λ (x : Disk). Some x) (disk_with-append d (e ∷ []) p)
 
 pub with_events-none : (p : List Event) → with_events None p ≡ None
 with_events-none [] = refl

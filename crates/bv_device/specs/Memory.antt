@@ -8,7 +8,7 @@ use Rattle.bv_device.specs.declared.call_kind.CallKind.TheVariants as kind
 use Rattle.bv_device.specs.declared.failed.Failed.{Failed}
 use Rattle.bv_device.specs.declared.traced.Refusal.{Refusal}
 use Rattle.bv_device.specs.declared.traced.Refusal.TheVariants.{Full, NoMemory}
-use Rattle.bv_device.specs.Told.{Disk, extended}
+use Rattle.bv_device.specs.Told.{Disk, disk_with}
 
 -- what it tells; for each kind of call, the numbers of those that are to fail; how many calls failed, and how many
 -- of them for want of memory. Numbers count from now on: 1 is the next call of the kind, and 0 one that is past.
@@ -21,8 +21,8 @@ pub record HeldDevice : Type 0 where
   pub short : ℕ
 
 -- a device that has these blocks at its opening
-abbrev pub opened : Blocks → HeldDevice
-opened blocks = record {
+abbrev pub device_of : Blocks → HeldDevice
+device_of blocks = record {
   disk = record { base = blocks; trace = [] };
   reads = [];
   writes = [];
@@ -60,31 +60,33 @@ pub record IsTraced (base now : Blocks) (trace : List Event) : Type 0 where
 
 -- the event was added; or it wasn't, exactly where the trace is full, or for want of memory
 abbrev pub IsLogged : Result Unit Refusal → Event → Disk → Disk → Type 0
-IsLogged (Ok v) e old new = (¬ IsFull old) × (new ≡ extended old (e ∷ []))
+IsLogged (Ok v) e old new = (¬ IsFull old) × (new ≡ disk_with old (e ∷ []))
 IsLogged (Err Full) e old new = IsFull old × (new ≡ old)
 IsLogged (Err NoMemory) e old new = new ≡ old
 
 -- with one event more
-abbrev pub did : HeldDevice → Event → HeldDevice
-did d e = record d { disk = extended d.disk (e ∷ []) }
+abbrev pub with_one_event : HeldDevice → Event → HeldDevice
+with_one_event d e = record d { disk = disk_with d.disk (e ∷ []) }
 
 -- with one failure more
-abbrev pub failing : HeldDevice → HeldDevice
-failing d = record d { faults = one_more d.faults }
+abbrev pub with_fault : HeldDevice → HeldDevice
+with_fault d = record d { faults = one_more d.faults }
 
 -- with one failure more, for want of memory
-abbrev pub running_short : HeldDevice → HeldDevice
-running_short d = record d { faults = one_more d.faults; short = one_more d.short }
+abbrev pub with_shortage : HeldDevice → HeldDevice
+with_shortage d = record d { faults = one_more d.faults; short = one_more d.short }
 
--- after a read, a write or a sync was counted
-abbrev pub read_counted : HeldDevice → HeldDevice
-read_counted d = record d { reads = one_call_later d.reads }
+-- with one read counted
+abbrev pub with_read : HeldDevice → HeldDevice
+with_read d = record d { reads = one_call_later d.reads }
 
-abbrev pub write_counted : HeldDevice → HeldDevice
-write_counted d = record d { writes = one_call_later d.writes }
+-- with one write counted
+abbrev pub with_write : HeldDevice → HeldDevice
+with_write d = record d { writes = one_call_later d.writes }
 
-abbrev pub sync_counted : HeldDevice → HeldDevice
-sync_counted d = record d { syncs = one_call_later d.syncs }
+-- with one sync counted
+abbrev pub with_sync : HeldDevice → HeldDevice
+with_sync d = record d { syncs = one_call_later d.syncs }
 
 -- what a write or a sync answers and counts, by whether its event was added and whether it was named to fail
 abbrev pub IsCounted : Result Unit Failed → Result Unit Refusal → Bool → ℕ → ℕ → ℕ → ℕ → Type 0
@@ -101,12 +103,12 @@ IsCounted (Err e) (Err NoMemory) named faults short faults_now short_now =
 -- What a read does, `d` being the device that has counted it: it fails exactly where it was named.
 abbrev pub Reads : Result Unit Failed → List ℕ → HeldDevice → HeldDevice → Type 0
 Reads (Ok v) fails d new = (¬ IsNamed fails) × (new ≡ d)
-Reads (Err e) fails d new = IsNamed fails × (new ≡ failing d)
+Reads (Err e) fails d new = IsNamed fails × (new ≡ with_fault d)
 
 -- What a write or a sync does, `d` being the device that has counted it: it fails exactly where it was named, where
 -- the trace is full, or where `short` rises, and a failed one leaves its failed event in the first case alone.
 abbrev pub Logs : Result Unit Failed → (Bool → Event) → List ℕ → HeldDevice → HeldDevice → Type 0
-Logs (Ok v) event fails d new = (¬ IsNamed fails) × (¬ IsFull d.disk) × (new ≡ did d (event true))
+Logs (Ok v) event fails d new = (¬ IsNamed fails) × (¬ IsFull d.disk) × (new ≡ with_one_event d (event true))
 Logs (Err e) event fails d new =
-    (IsNamed fails × (new ≡ failing (did d (event false))))
-    ⊎ ((IsFull d.disk × (new ≡ failing d)) ⊎ (new ≡ running_short d))
+    (IsNamed fails × (new ≡ with_fault (with_one_event d (event false))))
+    ⊎ ((IsFull d.disk × (new ≡ with_fault d)) ⊎ (new ≡ with_shortage d))

@@ -29,9 +29,9 @@ IsPlan (Sync true ∷ plan) = IsPlan plan
 IsPlan (Sync false ∷ plan) = ⊥
 
 -- the event of this call where it fails
-abbrev pub failed : Event → Event
-failed (Write at bytes ok) = Write at bytes false
-failed (Sync ok) = Sync false
+abbrev pub failed_event : Event → Event
+failed_event (Write at bytes ok) = Write at bytes false
+failed_event (Sync ok) = Sync false
 
 -- what is told after these events more
 abbrev pub with_events : Option Disk → List Event → Option Disk
@@ -41,7 +41,7 @@ with_events told (e ∷ plan) = with_events (with_event told e) plan
 -- the plan was cut short: some call of it failed, and left its failed event or nothing
 abbrev pub CutShort : List Event → Option Disk → Option Disk → Type 0
 CutShort [] old new = ⊥
-CutShort (e ∷ plan) old new = (new ≡ old) ⊎ ((new ≡ with_event old (failed e)) ⊎ CutShort plan (with_event old e) new)
+CutShort (e ∷ plan) old new = (new ≡ old) ⊎ ((new ≡ with_event old (failed_event e)) ⊎ CutShort plan (with_event old e) new)
 
 -- Ok did all of the plan, and an error cut it short.
 abbrev pub Follows : {T E : Type 0} → Result T E → List Event → Option Disk → Option Disk → Type 0

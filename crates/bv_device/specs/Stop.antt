@@ -23,11 +23,11 @@ abbrev pub nth_or_last : List (List ℕ) → ℕ → List ℕ
 nth_or_last these n = slice_index_or these (min n (length these - 1)) []
 
 -- the candidate that the choice takes for sector s of block b
-abbrev pub chosen : Blocks → List Event → List ℕ → ℕ → ℕ → List ℕ
-chosen base p choice b s =
+abbrev pub chosen_sector : Blocks → List Event → List ℕ → ℕ → ℕ → List ℕ
+chosen_sector base p choice b s =
     nth_or_last (candidates base p b s) (byte_for choice (16 * open_blocks (unsynced_part p) b + s))
 
 -- the image has as many blocks, and in each sector the candidate that the choice takes
 pub record IsChosen (base : Blocks) (p : List Event) (choice : List ℕ) (image : Blocks) : Type 0 where
   pub as_long : length image ≡ length base
-  pub each_sector : (b s : ℕ) → b < length base → s < 16 → sector (block image b) s ≡ chosen base p choice b s
+  pub each_sector : (b s : ℕ) → b < length base → s < 16 → sector (block image b) s ≡ chosen_sector base p choice b s

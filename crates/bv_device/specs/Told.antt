@@ -18,10 +18,10 @@ abbrev pub MayLeave : Disk → Blocks → Type 0
 MayLeave d j = IsImage d.base d.trace j
 
 -- the disk with these events more
-abbrev pub extended : Disk → List Event → Disk
-extended d events = record { base = d.base; trace = d.trace ++ events }
+abbrev pub disk_with : Disk → List Event → Disk
+disk_with d events = record { base = d.base; trace = d.trace ++ events }
 
 -- what is told after one event more
 abbrev pub with_event : Option Disk → Event → Option Disk
 with_event None e = None
-with_event (Some d) e = Some (extended d (e ∷ []))
+with_event (Some d) e = Some (disk_with d (e ∷ []))

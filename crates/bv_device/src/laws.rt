@@ -4,7 +4,7 @@ ghost use Rattle.std.specs.Prelude.{◌≡◌, ℕ, ◌+◌, List, ◌++◌, len
 ghost use Rattle.spec_disk.specs.declared.event.Event.{Event};
 ghost use Rattle.spec_disk.specs.Disk.{Blocks};
 ghost use Rattle.bv_device.specs.declared.failed.Failed.{Failed};
-ghost use Rattle.bv_device.specs.Told.{Disk, extended};
+ghost use Rattle.bv_device.specs.Told.{Disk, disk_with};
 ghost use Rattle.bv_device.specs.Plan.{IsPlan, writes, with_events, Follows};
 ghost use Rattle.bv_device.specs.Crash.{Ran, LeftByPlan};
 
@@ -20,7 +20,7 @@ pub fn what_is_told_goes_on()
     ensures none { (result : Result Unit Failed) (plan : List Event) (new : Option Disk)
         → Follows result plan None new → new ≡ None }
     ensures all { (d : Disk) (plan : List Event)
-        → with_events (Some d) plan ≡ Some (extended d plan) }
+        → with_events (Some d) plan ≡ Some (disk_with d plan) }
 {}
 
 /// Plans are joined by `++`, and so are writes of blocks that lie one after another.

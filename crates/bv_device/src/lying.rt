@@ -89,7 +89,7 @@ impl Device for LyingDevice {
             ≡ answer self.old.lies (self.old.reads + 1) (block self.old.blocks at) }
         ensures held { self.new ≡ record self.old { reads = one_more self.old.reads } }
     {
-        *into = *told(&self.lies, self.reads, &self.blocks[at as usize]);
+        *into = *answer_of(&self.lies, self.reads, &self.blocks[at as usize]);
         self.reads = self.reads.saturating_add(1);
         Ok(())
     }
@@ -131,7 +131,7 @@ impl Device for LyingDevice {
 }
 
 /// What the read after so many reads gives of a block that holds `held`.
-fn told<'a>(lies: &'a [Lie], reads: u64, held: &'a Block) -> &'a Block
+fn answer_of<'a>(lies: &'a [Lie], reads: u64, held: &'a Block) -> &'a Block
     ensures { result.now ≡ answer lies.now (reads + 1) held.now }
 {
     for lie in lies {

@@ -7,7 +7,7 @@ ghost use Rattle.spec_disk.specs.Images.{IsImage};
 ghost use Rattle.spec_faults.specs.Faults.{CountsFaults};
 ghost use Rattle.bv_device.specs.Told.{now_of};
 ghost use Rattle.bv_device.specs.Stop.{IsChosen};
-ghost use Rattle.bv_device.specs.Memory.{HeldDevice, opened, with_failing, read_counted, write_counted, sync_counted, IsCounted, Reads, Logs};
+ghost use Rattle.bv_device.specs.Memory.{HeldDevice, device_of, with_failing, with_read, with_write, with_sync, IsCounted, Reads, Logs};
 
 use crate::schedule::Schedule;
 use crate::stop::image_of;
@@ -46,7 +46,7 @@ impl Model for MemDevice {
 impl MemDevice {
     /// A device of so many blocks whose bytes are all zero.
     pub fn new(alloc: Global, blocks: u64) -> Result<MemDevice, AllocError>
-        ensures { IfOk result (λ m. m ≡ opened (replicate blocks (replicate 8192 0))) }
+        ensures { IfOk result (λ m. m ≡ device_of (replicate blocks (replicate 8192 0))) }
     {
         let mut zeros = Vec::new(alloc);
         zeros.resize(blocks as usize, [0u8; 8192])?;
@@ -55,7 +55,7 @@ impl MemDevice {
 
     /// A device that has these blocks at its opening.
     pub fn from_blocks(alloc: Global, blocks: Vec<Block>) -> MemDevice
-        ensures { result ≡ opened blocks.items }
+        ensures { result ≡ device_of blocks.items }
     {
         MemDevice {
             disk: TracedDisk::new(alloc, blocks),
@@ -103,7 +103,7 @@ impl MemDevice {
     /// takes what was synced everywhere.
     pub fn stop_after(&self, alloc: Global, p: u64, choice: &[u8]) -> Result<MemDevice, AllocError>
         requires { p ≤ length self.now.disk.trace }
-        ensures opened { IfOk result (λ m. m ≡ opened m.disk.base) }
+        ensures opened { IfOk result (λ m. m ≡ device_of m.disk.base) }
         ensures chosen { IfOk result (λ m. IsChosen self.now.disk.base (take p self.now.disk.trace)
             choice.now m.disk.base) }
         ensures image { IfOk result (λ m. IsImage self.now.disk.base (take p self.now.disk.trace)
@@ -149,7 +149,7 @@ impl Device for MemDevice {
     fn read(&mut self, at: u64, into: &mut Block) -> Result<(), Failed>
         requires { at < length self.old.disk.base }
         ensures ok { OnOk result (into.new ≡ block (now_of self.old.disk) at) }
-        ensures held { Reads result self.old.reads (read_counted self.old) self.new }
+        ensures held { Reads result self.old.reads (with_read self.old) self.new }
         ensures faults { CountsFaults self.old.faults self.new.faults result }
     {
         if self.reads.fails_next() {
@@ -163,7 +163,7 @@ impl Device for MemDevice {
     fn write(&mut self, at: u64, from: &Block) -> Result<(), Failed>
         requires { at < length self.old.disk.base }
         ensures held { Logs result (λ ok. Write at from.now ok) self.old.writes
-            (write_counted self.old) self.new }
+            (with_write self.old) self.new }
         ensures faults { CountsFaults self.old.faults self.new.faults result }
     {
         let named = self.writes.fails_next();
@@ -173,7 +173,7 @@ impl Device for MemDevice {
 
     fn sync(&mut self) -> Result<(), Failed>
         ensures held { Logs result (λ ok. Sync ok) self.old.syncs
-            (sync_counted self.old) self.new }
+            (with_sync self.old) self.new }
         ensures faults { CountsFaults self.old.faults self.new.faults result }
     {
         let named = self.syncs.fails_next();

@@ -8,10 +8,10 @@ use Rattle.spec_record.specs.declared.geometry.Geometry.{Geometry}
 use Rattle.spec_record.specs.Geometry.{IsGeometry, total_blocks}
 use Rattle.spec_image.specs.Empty.{BeginsEmpty}
 use Rattle.bv_device.specs.declared.failed.Failed.{Failed}
-use Rattle.bv_device.specs.Told.{Disk, now_of, extended}
+use Rattle.bv_device.specs.Told.{Disk, now_of, disk_with}
 use Rattle.bv_device.specs.Plan.{Follows}
 use Rattle.bv_device.specs.Seen.{Seen, Performs}
-use Rattle.bv_device.proofs.PlanLemmas.{extended-nil, with_events-some}
+use Rattle.bv_device.proofs.PlanLemmas.{disk_with-nil, with_events-some}
 use Rattle.bv_format.specs.declared.fault.FormatFault.{FormatFault}
 use Rattle.bv_format.specs.declared.fault.FormatFault.TheVariants.{Counts, ShortDevice, DeviceFault}
 use Rattle.bv_format.specs.Plan.{format_plan}
@@ -25,7 +25,7 @@ use Rattle.bv_format.proofs.StopLemmas.{IsEmptyVolume-begins, FormatStop-plan, F
 
 untouched-stops : (g : Geometry) (told : Option Disk) → IfSome told (λ d. StopsWell g d told)
 untouched-stops g None = tt
-untouched-stops g (Some d) = record { events = []; is = ap (λ (x : Disk). Some x) (sym (extended-nil d)); stop = FormatStop-none d.base d.trace g }
+untouched-stops g (Some d) = record { events = []; is = ap (λ (x : Disk). Some x) (sym (disk_with-nil d)); stop = FormatStop-none d.base d.trace g }
 
 pub Formats-untouched : (g : Geometry) (fault : FormatFault) (v : Seen) → IsRefusal (Err fault) → Formats g (Err fault) v v
 Formats-untouched g (Counts field value) v refused = record {
@@ -54,9 +54,9 @@ stops-run r g None new blocks lawful room long f = tt
 stops-run r g (Some d) new blocks lawful room long f =
     Stops-run r g d (format_plan g) (Some d) new (IsPlan-format g) (FormatStop-plan d.base d.trace g lawful (omega (arith, room, long))) refl f
 
-made-by_plan : (g : Geometry) (d : Disk) → IsGeometry g → total_blocks g ≤ length d.base → IsMade g (extended d (format_plan g))
+made-by_plan : (g : Geometry) (d : Disk) → IsGeometry g → total_blocks g ≤ length d.base → IsMade g (disk_with d (format_plan g))
 made-by_plan g d lawful room =
-    let made : Disk = extended d (format_plan g) in
+    let made : Disk = disk_with d (format_plan g) in
     let settled : IsSettled made.trace = IsSettled-plan d.trace g in
     let is : now_of made ≡ all_made g (now_of d) = now_after-append d.base d.trace (format_plan g) ∙ now_after-plan (now_of d) g in
     let begins : BeginsEmpty g (now_of made) = subst (BeginsEmpty g) (sym is) (BeginsEmpty-made (now_of d) g lawful (omega (arith, room, length-now_after d.base d.trace))) in
@@ -71,7 +71,7 @@ made-run : (g : Geometry) (old new : Option Disk) (blocks : ℕ) → IsGeometry 
     → Follows {T = Unit {0}} {E = Failed} (Ok tt) (format_plan g) old new → IfSome old (λ d. IfSome new (λ e. IsMade g e))
 made-run g None new blocks lawful room long f = tt
 made-run g (Some d) new blocks lawful room long f =
-    let is : new ≡ Some (extended d (format_plan g)) = f ∙ with_events-some d (format_plan g) in
+    let is : new ≡ Some (disk_with d (format_plan g)) = f ∙ with_events-some d (format_plan g) in
     subst (λ (o : Option Disk). IfSome o (λ e. IsMade g e)) (sym is) (made-by_plan g d lawful (omega (arith, room, long)))
 
 pub Formats-ok : (g : Geometry) (old new : Seen) → IsGeometry g → total_blocks g ≤ old.block_count → IfSome old.told (λ d. length d.base ≡ old.block_count)

@@ -10,9 +10,9 @@ use Rattle.spec_disk.specs.Images.{IsImage, IsSettled}
 use Rattle.spec_disk.proofs.EventLemmas.{has_sync-push}
 use Rattle.spec_record.specs.declared.geometry.Geometry.{Geometry}
 use Rattle.spec_crash.specs.Format.{HasOldHead, HasNoHead, IsEmptyVolume, FormatStop}
-use Rattle.bv_device.specs.Told.{Disk, extended, with_event}
-use Rattle.bv_device.specs.Plan.{IsPlan, failed, with_events, CutShort, Follows}
-use Rattle.bv_device.proofs.PlanLemmas.{extended-nil, extended-append, with_events-some, IsPlan-tail}
+use Rattle.bv_device.specs.Told.{Disk, disk_with, with_event}
+use Rattle.bv_device.specs.Plan.{IsPlan, failed_event, with_events, CutShort, Follows}
+use Rattle.bv_device.proofs.PlanLemmas.{disk_with-nil, disk_with-append, with_events-some, IsPlan-tail}
 use Rattle.bv_device.proofs.CrashLemmas.{image-failed_write, image-failed_sync}
 use Rattle.bv_format.specs.Formats.{StopsWell}
 
@@ -42,7 +42,7 @@ Stop-at base trace p q g j stop settled i =
 
 -- the call that fails after a first part
 Stop-at_failed : (base : Blocks) (trace before : List Event) (e : Event) (plan : List Event) (g : Geometry) (j : Blocks) → IsPlan (e ∷ plan)
-    → FormatStop base trace (before ++ e ∷ plan) g → IsSettled trace → IsImage base (trace ++ (before ++ failed e ∷ [])) j → Case base trace g (before ++ failed e ∷ []) j
+    → FormatStop base trace (before ++ e ∷ plan) g → IsSettled trace → IsImage base (trace ++ (before ++ failed_event e ∷ [])) j → Case base trace g (before ++ failed_event e ∷ []) j
 Stop-at_failed base trace before (Write at bytes true) plan g j planned stop settled i =
     let apart : IsImage base ((trace ++ before) ++ Write at bytes false ∷ []) j = subst (λ (t : List Event). IsImage base t j) (sym (append_assoc trace before (Write at bytes false ∷ []))) i in
     let image : IsImage base (trace ++ (before ++ Write at bytes true ∷ [])) j =
@@ -59,28 +59,28 @@ Stop-at_failed base trace before (Sync true) plan g j planned stop settled i =
 Stop-at_failed base trace before (Sync false) plan g j planned stop settled i = absurd planned
 
 Stop-failed : (base : Blocks) (trace before : List Event) (e : Event) (plan : List Event) (g : Geometry) → IsPlan (e ∷ plan)
-    → FormatStop base trace (before ++ e ∷ plan) g → FormatStop base trace (before ++ failed e ∷ []) g
+    → FormatStop base trace (before ++ e ∷ plan) g → FormatStop base trace (before ++ failed_event e ∷ []) g
 Stop-failed base trace before e plan g planned stop settled n j le i =
     elim (cases_lt (length before) n) [
       | inl more ↦
-          let all : take n (before ++ failed e ∷ []) ≡ before ++ failed e ∷ [] = take_all n (before ++ failed e ∷ []) (omega (arith, length_push before (failed e))) in
-          let image : IsImage base (trace ++ (before ++ failed e ∷ [])) j = subst (λ (t : List Event). IsImage base (trace ++ t) j) all i in
+          let all : take n (before ++ failed_event e ∷ []) ≡ before ++ failed_event e ∷ [] = take_all n (before ++ failed_event e ∷ []) (omega (arith, length_push before (failed_event e))) in
+          let image : IsImage base (trace ++ (before ++ failed_event e ∷ [])) j = subst (λ (t : List Event). IsImage base (trace ++ t) j) all i in
           subst (λ (t : List Event). Case base trace g t j) (sym all) (Stop-at_failed base trace before e plan g j planned stop settled image)
       | inr few ↦
-          let same : take n (before ++ failed e ∷ []) ≡ take n before = take-append-le n before (failed e ∷ []) few in
+          let same : take n (before ++ failed_event e ∷ []) ≡ take n before = take-append-le n before (failed_event e ∷ []) few in
           let image : IsImage base (trace ++ take n before) j = subst (λ (t : List Event). IsImage base (trace ++ t) j) same i in
           subst (λ (t : List Event). Case base trace g t j) (sym same) (Stop-front base trace before (e ∷ plan) g stop settled n j few image)
     ]
 
 Stops-cut_from : (g : Geometry) (d : Disk) (before plan : List Event) (new : Option Disk) → IsPlan plan → FormatStop d.base d.trace (before ++ plan) g
-    → CutShort plan (Some (extended d before)) new → StopsWell g d new
+    → CutShort plan (Some (disk_with d before)) new → StopsWell g d new
 Stops-cut_from g d before [] new planned stop cut = absurd cut
 Stops-cut_from g d before (e ∷ plan) new planned stop cut =
-    let some_is : (x : Event) → with_event (Some (extended d before)) x ≡ Some (extended d (before ++ x ∷ [])) = λ x. ap (λ (y : Disk). Some y) (extended-append d before (x ∷ [])) in
+    let some_is : (x : Event) → with_event (Some (disk_with d before)) x ≡ Some (disk_with d (before ++ x ∷ [])) = λ x. ap (λ (y : Disk). Some y) (disk_with-append d before (x ∷ [])) in
     elim cut [
       | inl same ↦ record { events = before; is = same; stop = Stop-front d.base d.trace before (e ∷ plan) g stop }
       | inr more ↦ elim more [
-        | inl f ↦ record { events = before ++ failed e ∷ []; is = f ∙ some_is (failed e); stop = Stop-failed d.base d.trace before e plan g planned stop }
+        | inl f ↦ record { events = before ++ failed_event e ∷ []; is = f ∙ some_is (failed_event e); stop = Stop-failed d.base d.trace before e plan g planned stop }
         | inr on ↦ Stops-cut_from g d (before ++ e ∷ []) plan new (IsPlan-tail e plan planned)
             (subst (λ (t : List Event). FormatStop d.base d.trace t g) (sym (append_assoc before (e ∷ []) plan)) stop)
             (subst (λ (o : Option Disk). CutShort plan o new) (some_is e) on)
@@ -94,4 +94,4 @@ Stops-run (Ok v) g d plan old new planned stop is f =
     record { events = plan; is = f ∙ ap (λ (o : Option Disk). with_events o plan) is ∙ with_events-some d plan; stop = stop }
 Stops-run (Err x) g d plan old new planned stop is f =
     Stops-cut_from g d [] plan new planned stop
-    (subst (λ (y : Disk). CutShort plan (Some y) new) (sym (extended-nil d)) (subst (λ (o : Option Disk). CutShort plan o new) is f))
+    (subst (λ (y : Disk). CutShort plan (Some y) new) (sym (disk_with-nil d)) (subst (λ (o : Option Disk). CutShort plan o new) is f))

@@ -16,7 +16,7 @@ use Rattle.spec_record.specs.Superblock.{super_bytes}
 use Rattle.spec_image.specs.Empty.{zero_block, empty_behind, empty_super, BeginsEmpty}
 use Rattle.spec_crash.specs.Format.{head, HasOldHead, HasNoHead, IsEmptyVolume, FormatStop}
 use Rattle.spec_crash.proofs.FormatLemmas.{head-refused}
-use Rattle.bv_device.specs.Told.{Disk, extended}
+use Rattle.bv_device.specs.Told.{Disk, disk_with}
 use Rattle.bv_device.specs.Plan.{writes, a_sync}
 use Rattle.bv_device.specs.Crash.{Leaves}
 use Rattle.bv_device.proofs.CrashLemmas.{Walks, EachKeeps, Crash-walk, Walks-append, Walks-kept, EachKeeps-end}
@@ -65,7 +65,7 @@ elsewhere at bytes b other = elim (eqb_tells at b) [
 quiet-write : (x : Disk) (at : ℕ) (bytes : List ℕ) (b : ℕ) → at ≢ b → pending x.trace b ≡ [] → pending (x.trace ++ Write at bytes true ∷ []) b ≡ []
 quiet-write x at bytes b other quiet = pending-push x.trace (Write at bytes true) b refl ∙ rw (quiet, elsewhere at bytes b other)
 
-ZeroHead-write : (x : Disk) (at : ℕ) (bytes : List ℕ) → 1 ≤ at → ZeroHead x → ZeroHead (extended x (Write at bytes true ∷ []))
+ZeroHead-write : (x : Disk) (at : ℕ) (bytes : List ℕ) → 1 ≤ at → ZeroHead x → ZeroHead (disk_with x (Write at bytes true ∷ []))
 ZeroHead-write x at bytes behind s = record {
   quiet = quiet-write x at bytes 0 (λ e. absurd (omega (arith, e, behind))) s.quiet;
   synced = ap (λ (d : Blocks). block d 0) (synced_after-push x.base x.trace (Write at bytes true) refl) ∙ s.synced;
@@ -73,7 +73,7 @@ ZeroHead-write x at bytes behind s = record {
       ∙ get_or-set_other (now_after x.base x.trace) at 0 bytes [] (λ e. absurd (omega (arith, e, behind))) ∙ s.now;
 }
 
-ZeroHead-sync : (x : Disk) → ZeroHead x → ZeroHead (extended x (Sync true ∷ []))
+ZeroHead-sync : (x : Disk) → ZeroHead x → ZeroHead (disk_with x (Sync true ∷ []))
 ZeroHead-sync x s = record {
   quiet = pending-push_sync x.trace 0;
   synced = ap (λ (d : Blocks). block d 0) (synced_after-push_sync x.base x.trace) ∙ s.now;
@@ -123,7 +123,7 @@ written g trace = trace ++ Write 0 (super_bytes (empty_super g)) true ∷ []
 
 -- with the superblock pending: it is there or it isn't
 Leaves-pending : (now : Blocks) (g : Geometry) (x : Disk) → IsGeometry g → total_blocks g ≤ length now → Behind now g x
-    → Leaves (extended x (Write 0 (super_bytes (empty_super g)) true ∷ [])) (λ j. HasNoHead j ⊎ IsEmptyVolume g j)
+    → Leaves (disk_with x (Write 0 (super_bytes (empty_super g)) true ∷ [])) (λ j. HasNoHead j ⊎ IsEmptyVolume g j)
 Leaves-pending now g x lawful room s j i =
     let sup : List ℕ = super_bytes (empty_super g) in
     let once : pending (written g x.trace) 0 ≡ sup ∷ [] = pending-push x.trace (Write 0 sup true) 0 refl ∙ ap (λ (ws : List (List ℕ)). ws ++ (sup ∷ [])) s.head.quiet in
@@ -145,7 +145,7 @@ Leaves-pending now g x lawful room s j i =
 
 -- once it is synced
 Leaves-made : (now : Blocks) (g : Geometry) (x : Disk) → IsGeometry g → total_blocks g ≤ length now → Behind now g x
-    → Leaves (extended (extended x (Write 0 (super_bytes (empty_super g)) true ∷ [])) a_sync) (λ j. HasNoHead j ⊎ IsEmptyVolume g j)
+    → Leaves (disk_with (disk_with x (Write 0 (super_bytes (empty_super g)) true ∷ [])) a_sync) (λ j. HasNoHead j ⊎ IsEmptyVolume g j)
 Leaves-made now g x lawful room s j i =
     let sup : List ℕ = super_bytes (empty_super g) in
     let made : now_after x.base (written g x.trace) ≡ all_made g now =
@@ -159,9 +159,9 @@ Leaves-made now g x lawful room s j i =
 
 Walks-weaker : (P Q : ℕ → Blocks → Type 0) (d : Disk) (plan : List Event) (n : ℕ) → ((k : ℕ) (j : Blocks) → P k j → Q k j) → Walks d plan P n → Walks d plan Q n
 Walks-weaker P Q d [] n weaker w = λ j i. weaker n j (w j i)
-Walks-weaker P Q d (e ∷ plan) n weaker w = (λ j i. weaker n j (w.0 j i), Walks-weaker P Q (extended d (e ∷ [])) plan (n + 1) weaker (w.1))
+Walks-weaker P Q d (e ∷ plan) n weaker w = (λ j i. weaker n j (w.0 j i), Walks-weaker P Q (disk_with d (e ∷ [])) plan (n + 1) weaker (w.1))
 
-Behind-written : (now : Blocks) (g : Geometry) → ZeroHead (extended (from now cleared) (behind_plan g)) → Behind now g (extended (from now cleared) (behind_plan g))
+Behind-written : (now : Blocks) (g : Geometry) → ZeroHead (disk_with (from now cleared) (behind_plan g)) → Behind now g (disk_with (from now cleared) (behind_plan g))
 Behind-written now g s =
     let events : List Event = cleared ++ writes 1 (empty_behind g) in
     record {
@@ -182,10 +182,10 @@ Walks-format : (now : Blocks) (g : Geometry) → IsGeometry g → total_blocks g
 Walks-format now g lawful room =
     let start : ZeroHead (from now cleared) = ZeroHead-cleared now (omega (arith, room)) in
     let keeps : EachKeeps ZeroHead (behind_plan g) = EachKeeps-behind 1 (empty_behind g) (omega arith) in
-    let end : ZeroHead (extended (from now cleared) (behind_plan g)) = EachKeeps-end ZeroHead (from now cleared) (behind_plan g) keeps start in
+    let end : ZeroHead (disk_with (from now cleared) (behind_plan g)) = EachKeeps-end ZeroHead (from now cleared) (behind_plan g) keeps start in
     let kept : Walks (from now cleared) (behind_plan g) (λ _. HasNoHead) 2 = Walks-kept ZeroHead HasNoHead (from now cleared) (behind_plan g) 2 Leaves-zero_head keeps start in
     let behind : Walks (from now cleared) (behind_plan g) (At now g) 2 = Walks-weaker (λ _. HasNoHead) (At now g) (from now cleared) (behind_plan g) 2 (λ k j h. inr (inl h)) kept in
-    let last = Walks-super now g (extended (from now cleared) (behind_plan g)) (2 + length (behind_plan g)) lawful room (Behind-written now g end) in
+    let last = Walks-super now g (disk_with (from now cleared) (behind_plan g)) (2 + length (behind_plan g)) lawful room (Behind-written now g end) in
     (Leaves-old now g, (Leaves-clearing now g, Walks-append (from now cleared) (behind_plan g) (super_plan g) (At now g) 2 behind last))
 
 -- FormatStop of the plan

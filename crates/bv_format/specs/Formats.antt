@@ -6,7 +6,7 @@ use Rattle.spec_disk.specs.Images.{IsSettled}
 use Rattle.spec_record.specs.declared.geometry.Geometry.{Geometry}
 use Rattle.spec_image.specs.Empty.{BeginsEmpty}
 use Rattle.spec_crash.specs.Format.{FormatStop, IsEmptyVolume}
-use Rattle.bv_device.specs.Told.{Disk, MayLeave, now_of, extended}
+use Rattle.bv_device.specs.Told.{Disk, MayLeave, now_of, disk_with}
 use Rattle.bv_device.specs.Plan.{Follows, CountsCalls}
 use Rattle.bv_device.specs.Seen.{Seen}
 use Rattle.bv_format.specs.declared.fault.FormatFault.{FormatFault}
@@ -17,7 +17,7 @@ use Rattle.bv_format.specs.Answers.{CountsFault}
 -- the new one
 pub record StopsWell (g : Geometry) (d : Disk) (told : Option Disk) : Type 0 where
   pub events : List Event
-  pub is : told ≡ Some (extended d events)
+  pub is : told ≡ Some (disk_with d events)
   pub stop : FormatStop d.base d.trace events g
 
 -- the volume is made: nothing is pending, and Now, the one image, is a volume without a blob

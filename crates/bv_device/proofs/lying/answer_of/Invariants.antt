@@ -1,6 +1,6 @@
 use Rattle.std.proofs.Common.{◌≡◌, ◌+◌, drop}
 use Rattle.bv_device.specs.Lying.{answer}
-use Rattle.bv_device.proofs.lying.told.Given as goal
+use Rattle.bv_device.proofs.lying.answer_of.Given as goal
 
 -- the lies that are left say what all of them say
 abbrev pub invariant-loop-lie : goal.invariant-loop-lie
