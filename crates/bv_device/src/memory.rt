@@ -1,6 +1,6 @@
 //! A device in memory that keeps its trace, whose calls fail where it was told so.
 
-ghost use Rattle.std.specs.Prelude.{◌≡◌, ◌<◌, ◌≤◌, ◌-◌, ◌^◌, length, replicate, take, Some, IfOk, OnOk, OnErr, refl, slice_index_or};
+ghost use Rattle.std.specs.Prelude.{◌≡◌, ◌<◌, ◌≤◌, ◌-◌, ◌^◌, length, replicate, take, Some, IfOk, OnOk, OnErr, refl, slice_get};
 ghost use Rattle.spec_disk.specs.declared.event.Event.TheVariants.{Write, Sync};
 ghost use Rattle.spec_disk.specs.Disk.{block};
 ghost use Rattle.spec_disk.specs.Images.{IsImage};
@@ -90,7 +90,7 @@ impl MemDevice {
     /// Event `k` of the trace, counted from 0.
     pub fn event(&self, k: u64) -> &Event
         requires { k < length self.now.disk.trace }
-        ensures { result.now ≡ slice_index_or self.now.disk.trace k result.now }
+        ensures { slice_get self.now.disk.trace k ≡ Some result.now }
     {
         &self.disk.trace()[k as usize]
     }
