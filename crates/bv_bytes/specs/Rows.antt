@@ -11,4 +11,5 @@ with_field bytes offset width number =
 abbrev pub is_row : ℕ → List ℕ → ℕ → ℕ → ℕ → Bool
 is_row at [] k offset width = false
 is_row at (w ∷ widths) zero offset width = (at == offset) && (w == width)
-is_row at (w ∷ widths) (suc k) offset width = nat_le (at + w) offset && is_row (at + w) widths k offset width
+is_row at (w ∷ widths) (suc k) offset width =
+    nat_le (at + w) offset && is_row (at + w) widths k offset width

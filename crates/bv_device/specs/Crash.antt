@@ -1,4 +1,5 @@
--- What each stop of a run leaves: stops after any number of its events, also before the first and after the last.
+-- What each stop of a run leaves: stops after any number of its events, also before the first and
+-- after the last.
 use Rattle.std.specs.Prelude.{◌≡◌, ◌≤◌, ℕ, List, length, take, Option, Some}
 use Rattle.spec_disk.specs.declared.event.Event.{Event}
 use Rattle.spec_disk.specs.Disk.{Blocks}
@@ -20,4 +21,5 @@ pub record Ran (d : Disk) (told : Option Disk) (P : ℕ → Blocks → Type 0) :
 
 -- whatever a stop of a run leaves after k events, a stop of the plan leaves after at most k
 abbrev pub LeftByPlan : Disk → List Event → ℕ → Blocks → Type 0
-LeftByPlan d plan k j = (m : ℕ) × (m ≤ k) × (m ≤ length plan) × MayLeave (disk_with d (take m plan)) j
+LeftByPlan d plan k j =
+    (m : ℕ) × (m ≤ k) × (m ≤ length plan) × MayLeave (disk_with d (take m plan)) j

@@ -10,8 +10,9 @@ use Rattle.bv_device.specs.declared.traced.Refusal.{Refusal}
 use Rattle.bv_device.specs.declared.traced.Refusal.TheVariants.{Full, NoMemory}
 use Rattle.bv_device.specs.Told.{Disk, disk_with}
 
--- what it tells; for each kind of call, the numbers of those that are to fail; how many calls failed, and how many
--- of them for want of memory. Numbers count from now on: 1 is the next call of the kind, and 0 one that is past.
+-- what it tells; for each kind of call, the numbers of those that are to fail; how many calls
+-- failed, and how many of them for want of memory. Numbers count from now on: 1 is the next call of
+-- the kind, and 0 one that is past.
 pub record HeldDevice : Type 0 where
   pub disk : Disk
   pub reads : List ℕ
@@ -49,7 +50,8 @@ with_failing d kind.Sync nth = record d { syncs = d.syncs ++ nth ∷ [] }
 abbrev pub IsFull : Disk → Type 0
 IsFull d = 2 ^ 63 - 1 ≤ length d.trace
 
--- what the blocks were at the opening: those that were kept, or those of now where nothing was written yet
+-- what the blocks were at the opening: those that were kept, or those of now where nothing was
+-- written yet
 abbrev pub base_of : Bool → Blocks → Blocks → Blocks
 base_of is_kept opening now = if is_kept then opening else now
 
@@ -88,7 +90,8 @@ with_write d = record d { writes = one_call_later d.writes }
 abbrev pub with_sync : HeldDevice → HeldDevice
 with_sync d = record d { syncs = one_call_later d.syncs }
 
--- what a write or a sync answers and counts, by whether its event was added and whether it was named to fail
+-- what a write or a sync answers and counts, by whether its event was added and whether it was
+-- named to fail
 abbrev pub IsCounted : Result Unit Failed → Result Unit Refusal → Bool → ℕ → ℕ → ℕ → ℕ → Type 0
 IsCounted (Ok v) (Ok w) named faults short faults_now short_now =
     (named ≡ false) × (faults_now ≡ faults) × (short_now ≡ short)
@@ -105,10 +108,12 @@ abbrev pub Reads : Result Unit Failed → List ℕ → HeldDevice → HeldDevice
 Reads (Ok v) fails d new = (¬ IsNamed fails) × (new ≡ d)
 Reads (Err e) fails d new = IsNamed fails × (new ≡ with_fault d)
 
--- What a write or a sync does, `d` being the device that has counted it: it fails exactly where it was named, where
--- the trace is full, or where `short` rises, and a failed one leaves its failed event in the first case alone.
+-- What a write or a sync does, `d` being the device that has counted it: it fails exactly where it
+-- was named, where the trace is full, or where `short` rises, and a failed one leaves its failed
+-- event in the first case alone.
 abbrev pub Logs : Result Unit Failed → (Bool → Event) → List ℕ → HeldDevice → HeldDevice → Type 0
-Logs (Ok v) event fails d new = (¬ IsNamed fails) × (¬ IsFull d.disk) × (new ≡ with_one_event d (event true))
+Logs (Ok v) event fails d new =
+    (¬ IsNamed fails) × (¬ IsFull d.disk) × (new ≡ with_one_event d (event true))
 Logs (Err e) event fails d new =
     (IsNamed fails × (new ≡ with_fault (with_one_event d (event false))))
     ⊎ ((IsFull d.disk × (new ≡ with_fault d)) ⊎ (new ≡ with_shortage d))

@@ -1,6 +1,8 @@
--- What a function does to a device: a plan, which is the list of the events that it leaves where all of them are Ok.
+-- What a function does to a device: a plan, which is the list of the events that it leaves where
+-- all of them are Ok.
 --
--- Plans are joined by `++`, grouped to the right as the calls come: `a_write at bytes ++ (a_sync ++ ..)`.
+-- Plans are joined by `++`, grouped to the right as the calls come:
+-- `a_write at bytes ++ (a_sync ++ ..)`.
 use Rattle.std.specs.Prelude.{◌≡◌, ◌≤◌, ◌⊎◌, ℕ, ◌+◌, List, [], ◌∷◌, true, false, Option, Result, Ok, Err, OnOk, OnErr}
 use Rattle.spec_disk.specs.declared.event.Event.{Event}
 use Rattle.spec_disk.specs.declared.event.Event.TheVariants.{Write, Sync}
@@ -41,7 +43,9 @@ with_events told (e ∷ plan) = with_events (with_event told e) plan
 -- the plan was cut short: some call of it failed, and left its failed event or nothing
 abbrev pub CutShort : List Event → Option Disk → Option Disk → Type 0
 CutShort [] old new = ⊥
-CutShort (e ∷ plan) old new = (new ≡ old) ⊎ ((new ≡ with_event old (failed_event e)) ⊎ CutShort plan (with_event old e) new)
+CutShort (e ∷ plan) old new =
+    (new ≡ old)
+    ⊎ ((new ≡ with_event old (failed_event e)) ⊎ CutShort plan (with_event old e) new)
 
 -- Ok did all of the plan, and an error cut it short.
 abbrev pub Follows : {T E : Type 0} → Result T E → List Event → Option Disk → Option Disk → Type 0

@@ -1,4 +1,5 @@
--- What a device tells of itself, where it tells at all: `None` of this is a device that tells nothing.
+-- What a device tells of itself, where it tells at all: `None` of this is a device that tells
+-- nothing.
 use Rattle.std.specs.Prelude.{List, [], ◌∷◌, ◌++◌, Option, Some, None}
 use Rattle.spec_disk.specs.declared.event.Event.{Event}
 use Rattle.spec_disk.specs.Disk.{Blocks, now_after}

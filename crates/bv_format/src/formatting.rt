@@ -11,8 +11,8 @@ use bv_layout::{Geometry, WrongCount, check_counts};
 
 /// Makes a volume without a blob from block 0 on. The device's further blocks stay as they are.
 ///
-/// On a device that was settled, a stop of the machine in the midst of it leaves the old head, which
-/// is the first sector of block 0 and can be there only before the first sync, or no volume, or the
+/// On a device that was settled, a stop of the machine in the midst of it leaves the old head, that
+/// is the first sector of block 0, which can be only before the first sync, or no volume, or the
 /// new one whole.
 pub fn format<D: Device>(dev: &mut D, geometry: Geometry) -> Result<(), FormatFault>
     requires { IsBetween 1 geometry.version 2 }

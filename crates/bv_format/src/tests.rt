@@ -215,8 +215,8 @@ fn a_call_that_fails_is_counted_and_leaves_one_of_the_cases(rt: HostRuntime) -> 
     }
     let count = |case: Left| seen.iter().filter(|left| **left == case).count();
     // of each version: the old head 2 times at the first write and the first sync; none 4 times at
-    // 18 writes and a sync, and 2 times at two of each; the new volume 2 times at the last write and
-    // the last sync, and 4 times where nothing fails
+    // 18 writes and a sync, and 2 times at two of each; the new volume 2 times at the last write
+    // and the last sync, and 4 times where nothing fails
     assert_eq!(rt; count(Left::OldHead), 8);
     assert_eq!(rt; count(Left::NoHead), 168);
     assert_eq!(rt; count(Left::NewVolume), 32);
