@@ -43,7 +43,7 @@ impl Entry {
         &self.targets
     }
 
-    /// The list that the entry was made of, or could be.
+    /// The targets with their bytes, which the entry gives up.
     pub fn into_targets(self) -> Vec<(u64, Block)>
         ensures { result.items ≡ self.targets }
     {

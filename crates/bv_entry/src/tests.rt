@@ -252,8 +252,8 @@ fn front_sum(block: &Block) -> u32 {
     crc32(&block[..32])
 }
 
-/// The row that fails first where all bits of the byte at `offset` are turned and the checksum of
-/// the bytes before it is `found`; none is left where the checksum was mended.
+/// The row that fails first where all bits of the byte at `offset` are turned, `found` being the
+/// checksum of the front then.
 fn info_row(offset: usize, found: u32) -> InfoFault {
     let wanted = 0x359a_a757;
     match offset {
@@ -269,7 +269,7 @@ fn info_row(offset: usize, found: u32) -> InfoFault {
     }
 }
 
-/// The same with the checksum mended, for the bytes that it is of.
+/// What is read where that checksum is stored in place of the old one, for a byte of the front.
 fn mended_row(offset: usize) -> Result<Info, InfoFault> {
     let turned = TURNED[offset % 8];
     match offset {
