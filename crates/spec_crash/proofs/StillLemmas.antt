@@ -1,6 +1,6 @@
 -- A history in which a sync makes no call of its own: recovery synced, a blob is unlinked, and a sync
 -- that bears recovery's call makes the purge durable.
-use Rattle.std.proofs.Common.{◌≡◌, ◌<◌, ℕ, ◌+◌, List, [], ◌∷◌, true, IsTrue, replicate, refl, inl, arith}
+use Rattle.std.proofs.Common.{◌≡◌, List, [], ◌∷◌, true, IsTrue, replicate, refl, inl, arith}
 use Rattle.std.specs.List.Sorted.{IsStrictlySortedBy}
 use Rattle.std.specs.Option.{IsSomeAnd}
 use Rattle.std.proofs.lemmas.List.Elements.{All-push, All-nil}
