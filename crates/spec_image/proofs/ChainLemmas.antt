@@ -17,10 +17,10 @@ pub bind_ok : {A B : Type 0} (r : Result A NodeFault) (f : A → Result B NodeFa
 bind_ok (Ok x) f y e = (x, refl, e)
 bind_ok (Err d) f y e = absurd cc
 
-abbrev done : {A : Type 0} → A → Result A NodeFault
+abbrev pub done : {A : Type 0} → A → Result A NodeFault
 done x = Ok x
 
-ok_is : {A : Type 0} (x y : A) → done x ≡ done y → x ≡ y
+pub ok_is : {A : Type 0} (x y : A) → done x ≡ done y → x ≡ y
 ok_is x y e = cc
 
 chosen_ok : {A : Type 0} (b : Bool) (r : Result A NodeFault) (f : NodeFault) (y : A) → cond b r (Err f) ≡ Ok y → (b ≡ true) × (r ≡ Ok y)
@@ -32,21 +32,21 @@ abbrev pub AllExtents : ℕ → List Extent → Type 0
 AllExtents blocks [] = Unit {0}
 AllExtents blocks (e ∷ es) = (is_extent blocks e ≡ true) × AllExtents blocks es
 
-checked : (blocks k i : ℕ) (es : List Extent) (u : Unit) → check_extents blocks k i es ≡ Ok u → AllExtents blocks es
+pub checked : (blocks k i : ℕ) (es : List Extent) (u : Unit) → check_extents blocks k i es ≡ Ok u → AllExtents blocks es
 checked blocks k i [] u e = tt
 checked blocks k i (x ∷ es) u e =
     let c = chosen_ok (is_extent blocks x) (check_extents blocks k (i + 1) es) (faults.Extent k i) u e in
     (c.0, checked blocks k (i + 1) es u c.1)
 
-both : (blocks : ℕ) (xs ys : List Extent) → AllExtents blocks xs → AllExtents blocks ys → AllExtents blocks (xs ++ ys)
+pub both : (blocks : ℕ) (xs ys : List Extent) → AllExtents blocks xs → AllExtents blocks ys → AllExtents blocks (xs ++ ys)
 both blocks [] ys a b = b
 both blocks (x ∷ xs) ys a b = (a.0, both blocks xs ys a.1 b)
 
 -- a pair that a walk gives
-abbrev joined : Container → ℕ → ℕ → List Extent × List ℕ → List Extent × List ℕ
+abbrev pub joined : Container → ℕ → ℕ → List Extent × List ℕ → List Extent × List ℕ
 joined c extents link rest = (take (min 6 extents) c.extents ++ rest.0, link ∷ rest.1)
 
-walk_extents : (ns : Nodes) (blocks version more extents previous link : ℕ) (r : List Extent × List ℕ) → walk ns blocks version more extents previous link ≡ Ok r → AllExtents blocks r.0
+pub walk_extents : (ns : Nodes) (blocks version more extents previous link : ℕ) (r : List Extent × List ℕ) → walk ns blocks version more extents previous link ≡ Ok r → AllExtents blocks r.0
 unfolding walk
 walk_extents ns blocks version zero extents previous link r e =
     let c = chosen_ok (eqb link no_node) (Ok ([], [])) (faults.BadLink previous) r e in

@@ -1,0 +1,113 @@
+//! The superblock by its definition, one row after another.
+
+ghost use Rattle.std.specs.Prelude.{◌≡◌, IfSome};
+ghost use Rattle.spec_record.specs.Geometry.{is_block_count, is_node_count, is_journal_count};
+ghost use Rattle.spec_record.specs.Superblock.{super_or_fault, super_of};
+ghost use Rattle.spec_record.specs.Laws.{SpellsSuper};
+
+use spec_disk::Block;
+use spec_record::{FieldName, Geometry, Super, SuperFault, field_of, first_set_of, is_zero};
+
+/// The bytes `blobvol` and a zero byte.
+const MAGIC: u64 = 0x006c_6f76_626f_6c62;
+
+/// The bytes `profile1`.
+const SECOND_MAGIC: u64 = 0x3165_6c69_666f_7270;
+
+fn has_block_count(version: u32, blocks: u64) -> bool
+    ensures { result ≡ is_block_count version blocks }
+{
+    let most = if version == 1 { 1_048_576 } else { 4_194_304 };
+    2 <= blocks && blocks <= most
+}
+
+fn has_node_count(version: u32, nodes: u64) -> bool
+    ensures { result ≡ is_node_count version nodes }
+{
+    let most = if version == 1 { 32_768 } else { 65_536 };
+    128 <= nodes && nodes <= most && nodes % 128 == 0
+}
+
+fn has_journal_count(geometry: Geometry) -> bool
+    ensures { result ≡ is_journal_count geometry }
+{
+    geometry.meta() + 3 <= geometry.journal && geometry.journal <= 65_536
+}
+
+/// Refuses a count where its test fails.
+macro_rules! ensure_count {
+    ($test:expr => $field:ident = $value:expr) => {
+        if !$test {
+            return Err(SuperFault::Counts {
+                field: FieldName::$field,
+                value: $value,
+            });
+        }
+    };
+}
+
+/// Refuses a field, by its offset and width, that isn't zero.
+macro_rules! ensure_zero {
+    ($block:ident from $offset:literal, $width:literal) => {
+        if !is_zero($block, $offset, $width) {
+            return Err(SuperFault::Zero {
+                offset: first_set_of($block, $offset),
+            });
+        }
+    };
+}
+
+/// What a block 0 stands for on a device of so many blocks, or the first row that fails.
+#[tactic(auto, unfolding(spec_record::specs::Superblock::super_or_fault))]
+fn super_tested(block: &Block, device_blocks: u64) -> Result<Super, SuperFault>
+    ensures { result ≡ super_or_fault block.now device_blocks }
+{
+    if field_of(block, 0, 8) != MAGIC || field_of(block, 8, 8) != SECOND_MAGIC {
+        return Err(SuperFault::Magic);
+    }
+    let version = field_of(block, 16, 4) as u32;
+    if version < 1 || version > 2 {
+        return Err(SuperFault::Version(version));
+    }
+    let geometry = Geometry {
+        blocks: field_of(block, 24, 8),
+        nodes: field_of(block, 32, 8),
+        journal: field_of(block, 40, 8),
+        version,
+    };
+    ensure_count!(has_block_count(version, geometry.blocks) => Blocks = geometry.blocks);
+    ensure_count!(has_node_count(version, geometry.nodes) => Nodes = geometry.nodes);
+    ensure_count!(has_journal_count(geometry) => Journal = geometry.journal);
+    let [bitmap, node_map] = [field_of(block, 48, 8), field_of(block, 56, 8)];
+    ensure_count!(bitmap == geometry.bitmap() => BitmapBlocks = bitmap);
+    ensure_count!(node_map == geometry.node_map() => NodeBlocks = node_map);
+    let blobs = field_of(block, 64, 8);
+    let used_blocks = field_of(block, 72, 8);
+    let used_nodes = field_of(block, 80, 8);
+    ensure_count!(blobs <= geometry.nodes => Blobs = blobs);
+    ensure_count!(1 <= used_blocks && used_blocks <= geometry.blocks => UsedBlocks = used_blocks);
+    ensure_count!(used_nodes <= geometry.nodes => UsedNodes = used_nodes);
+    ensure_zero!(block from 20, 4);
+    ensure_zero!(block from 88, 8104);
+    let wanted = geometry.total();
+    if wanted > device_blocks {
+        return Err(SuperFault::ShortDevice {
+            wanted,
+            has: device_blocks,
+        });
+    }
+    Ok(Super {
+        geometry,
+        blobs,
+        used_blocks,
+        used_nodes,
+    })
+}
+
+/// What a block 0 stands for on a device of so many blocks, or none.
+pub(crate) fn super_from(block: &Block, device_blocks: u64) -> Option<Super>
+    ensures value { result ≡ super_of block.now device_blocks }
+    ensures ok { IfSome result (SpellsSuper block.now device_blocks) }
+{
+    super_tested(block, device_blocks).ok()
+}
