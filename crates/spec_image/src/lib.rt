@@ -23,4 +23,6 @@ pub use plain_replay::{Accepted, Replayed, replay_of};
 pub use plain_well_formed::is_well_formed_with;
 
 #[cfg(test)]
+mod image_tests;
+#[cfg(test)]
 mod tests;

@@ -1,0 +1,305 @@
+//! Whole images by hand. The roots are by a SHA-256 elsewhere, and the checksums by zlib.
+//!
+//! A volume of version 2 has 64 data blocks, a journal of 16 blocks, and one or two blocks of nodes.
+//! Its two blobs take such data blocks that the bitmap begins as a journal header does.
+
+use crate::{blobs_from, bytes_from};
+use spec_disk::Block;
+use spec_tree::{Blob, Digest};
+use std::alloc::{AllocError, Global};
+use std::test::Fail;
+
+/// The magic of headers and commits, which is also the bitmap of the two blobs.
+const MAGIC: [u8; 8] = [0x79, 0x72, 0x74, 0x6e, 0x62, 0x6f, 0x6c, 0x62];
+
+/// 8197 bytes: 0xa1 in the first block, 0xa2 in the second.
+const FIRST: Digest = Digest([
+    0x16, 0x8d, 0xea, 0x6c, 0xe9, 0xea, 0xaa, 0x18, 0x39, 0x32, 0xfe, 0xed, 0x6a, 0x11, 0x74, 0x45,
+    0x73, 0x3e, 0xb7, 0x2a, 0xb7, 0x6c, 0x8c, 0x86, 0x0d, 0xbe, 0x49, 0x9f, 0xb3, 0x06, 0x54, 0x41,
+]);
+
+/// 237468 bytes: block k has bytes k + 1.
+const SECOND: Digest = Digest([
+    0xf9, 0x3c, 0x09, 0x0e, 0x78, 0xa0, 0x41, 0xa4, 0xf0, 0xca, 0x1a, 0x3b, 0x12, 0x92, 0xbb, 0x82,
+    0x86, 0x10, 0x02, 0x36, 0x8f, 0xc6, 0x19, 0x91, 0x91, 0x35, 0x8c, 0xaa, 0x96, 0xf9, 0x2d, 0x7d,
+]);
+
+/// The second blob's extents: the inode's, and those of its three containers.
+const EXTENTS: [(u8, u8); 14] = [
+    (3, 2),
+    (5, 2),
+    (9, 1),
+    (12, 3),
+    (18, 1),
+    (20, 3),
+    (25, 3),
+    (29, 2),
+    (33, 1),
+    (37, 2),
+    (40, 4),
+    (45, 2),
+    (50, 2),
+    (53, 2),
+];
+
+/// Writes bytes at an offset of a block.
+fn put(block: &mut Block, offset: usize, bytes: &[u8]) {
+    if offset <= 8192 && bytes.len() <= 8192 - offset {
+        block[offset..offset + bytes.len()].copy_from_slice(bytes);
+    }
+}
+
+/// Writes bytes at an offset of a block of an image.
+fn put_at(image: &mut [Block], at: usize, offset: usize, bytes: &[u8]) {
+    if let Some(block) = image.get_mut(at) {
+        put(block, offset, bytes);
+    }
+}
+
+/// Puts a block in its place of an image.
+fn set(image: &mut [Block], at: usize, block: &Block) {
+    put_at(image, at, 0, block);
+}
+
+/// A superblock with so many blocks of nodes and these counts of blobs, blocks and nodes.
+fn superblock(node_blocks: u8, counts: [u8; 3]) -> Block {
+    let mut block = [0; 8192];
+    put(&mut block, 0, b"blobvol\0profile1");
+    block[16] = 2;
+    block[24] = 64;
+    put(&mut block, 32, &(128 * node_blocks as u16).to_le_bytes());
+    block[40] = 16;
+    block[48] = 1;
+    block[56] = node_blocks;
+    block[64] = counts[0];
+    block[72] = counts[1];
+    block[80] = counts[2];
+    block
+}
+
+/// An info block of a start and a number, with its checksum.
+fn info(start: u8, number: u8, checksum: u32) -> Block {
+    let mut block = [0; 8192];
+    put(
+        &mut block,
+        0,
+        &[0x6c, 0x6e, 0x72, 0x6a, 0x62, 0x6f, 0x6c, 0x62],
+    );
+    block[8] = start;
+    block[24] = number;
+    put(&mut block, 32, &checksum.to_le_bytes());
+    block
+}
+
+/// Writes an extent at an offset of a block.
+fn put_extent(block: &mut Block, offset: usize, extent: (u8, u8)) {
+    put(block, offset, &[extent.0, 0, 0, 0, 0, 0, extent.1, 0]);
+}
+
+/// Writes an inode at a place of a block of nodes.
+fn put_inode(block: &mut Block, place: u8, version: u8, next: u8, root: Digest) {
+    let from = 64 * place as usize;
+    put(block, from, &[1, 0, version, 0, next]);
+    put(block, from + 8, &root.0);
+}
+
+/// Writes a container at a place of a block of nodes, with these extents.
+fn put_container(
+    block: &mut Block,
+    place: u8,
+    version: u8,
+    link: [u8; 4],
+    previous: u8,
+    extents: &[(u8, u8)],
+) {
+    let from = 64 * place as usize;
+    put(block, from, &[9, 0, version, 0]);
+    put(block, from + 4, &link);
+    put(
+        block,
+        from + 8,
+        &[previous, 0, 0, 0, extents.len().min(6) as u8],
+    );
+    for (index, extent) in extents.iter().take(6).enumerate() {
+        put_extent(block, from + 16 + 8 * index, *extent);
+    }
+}
+
+/// The first block of nodes: the first blob at nodes 5 and 2, the second at 0, 7 and 127, from which
+/// a link leads to its last one.
+fn nodes(last: u8) -> Block {
+    let mut block = [0; 8192];
+    put_inode(&mut block, 5, 1, 2, FIRST);
+    put(&mut block, 64 * 5 + 40, &[0x05, 0x20]);
+    put(&mut block, 64 * 5 + 48, &[3, 0, 0, 0, 2]);
+    put_extent(&mut block, 64 * 5 + 56, (57, 1));
+    put_container(&mut block, 2, 1, [0xff; 4], 5, &[(61, 2)]);
+    put_inode(&mut block, 0, 2, 7, SECOND);
+    put(&mut block, 40, &[0x9c, 0x9f, 0x03]);
+    put(&mut block, 48, &[30, 0, 0, 0, 14]);
+    put_extent(&mut block, 56, EXTENTS[0]);
+    put_container(&mut block, 7, 2, [127, 0, 0, 0], 0, &EXTENTS[1..7]);
+    put_container(&mut block, 127, 2, [last, 0, 0, 0], 7, &EXTENTS[7..13]);
+    block
+}
+
+/// Puts the second blob's last node at place 3 of a block of nodes.
+fn put_last(block: &mut Block) {
+    put_container(block, 3, 2, [0xff; 4], 127, &EXTENTS[13..]);
+}
+
+/// Fills the blobs' blocks, where data block 0 is at this place: the first blob's tree and data, the
+/// second's data and tree.
+fn fill_data(image: &mut [Block], data: usize) {
+    for (d, byte) in [(57, 0xff), (61, 0xa1), (62, 0xa2)] {
+        set(image, data.saturating_add(d), &[byte; 8192]);
+    }
+    let mut byte = 1u8;
+    for (start, len) in EXTENTS {
+        for d in start as usize..start as usize + len as usize {
+            set(image, data.saturating_add(d), &[byte; 8192]);
+            byte = byte.wrapping_add(1);
+        }
+    }
+}
+
+/// The image whose metadata blocks have the two blobs, with an empty journal, and one or two blocks
+/// of nodes. The second blob's last node is in the last of these.
+fn settled(alloc: Global, two: bool) -> Result<Vec<Block>, AllocError> {
+    let (node_blocks, last) = if two { (2, 131) } else { (1, 3) };
+    let meta = 2 + node_blocks as usize;
+    let mut image = vec![in alloc; [0; 8192]; meta + 80]?;
+    set(&mut image, 0, &superblock(node_blocks, [2, 34, 6]));
+    put_at(&mut image, 1, 0, &MAGIC);
+    set(&mut image, 2, &nodes(last));
+    if let Some(block) = image.get_mut(meta - 1) {
+        put_last(block);
+    }
+    set(&mut image, meta, &info(3, 8, 0xd694_723d));
+    fill_data(&mut image, meta + 16);
+    Ok(image)
+}
+
+/// The image whose metadata blocks have no blob, with an entry of the two blobs that wraps around
+/// the ring and has an escaped payload, the bitmap.
+fn journaled(alloc: Global) -> Result<Vec<Block>, AllocError> {
+    let mut image = settled(alloc, false)?;
+    let mut last = nodes(3);
+    put_last(&mut last);
+    set(&mut image, 0, &superblock(1, [0, 1, 0]));
+    put_at(&mut image, 1, 0, &[1, 0, 0, 0, 0, 0, 0, 0]);
+    set(&mut image, 2, &[0; 8192]);
+    set(&mut image, 3, &info(13, 7, 0x6d84_0e7f));
+    put_at(&mut image, 17, 0, &MAGIC);
+    put_at(&mut image, 17, 8, &[7, 0, 0, 0, 0, 0, 0, 0, 1]);
+    put_at(&mut image, 17, 32, &[3]);
+    put_at(&mut image, 17, 48, &[1, 0, 0, 0, 0, 0, 0, 0, 2]);
+    put_at(&mut image, 17, 5476, &[1]);
+    set(&mut image, 18, &superblock(1, [2, 34, 6]));
+    set(&mut image, 5, &last);
+    put_at(&mut image, 6, 0, &MAGIC);
+    put_at(&mut image, 6, 8, &[7, 0, 0, 0, 0, 0, 0, 0, 2]);
+    put_at(&mut image, 6, 32, &[0x31, 0x23, 0x88, 0xba]);
+    Ok(image)
+}
+
+/// How many blobs an image has, where it has a map, and whether they are the two.
+fn found(alloc: Global, image: &[Block]) -> Result<Option<(usize, bool)>, AllocError> {
+    let Some(map) = blobs_from(alloc, image)? else {
+        return Ok(None);
+    };
+    let first = Blob {
+        size: 8197,
+        version: 1,
+    };
+    let second = Blob {
+        size: 237_468,
+        version: 2,
+    };
+    let both = map.get(&FIRST) == Some(&first) && map.get(&SECOND) == Some(&second);
+    Ok(Some((map.len(), both)))
+}
+
+/// Whether an image has this blob, of so many bytes, where block k has bytes `first + k`.
+fn has_bytes(
+    alloc: Global,
+    image: &[Block],
+    root: Digest,
+    size: usize,
+    first: u8,
+) -> Result<bool, AllocError> {
+    let Some(bytes) = bytes_from(alloc, image, root)? else {
+        return Ok(false);
+    };
+    for (at, byte) in bytes.iter().enumerate() {
+        if *byte as usize != first as usize + at / 8192 {
+            return Ok(false);
+        }
+    }
+    Ok(bytes.len() == size)
+}
+
+#[test]
+fn an_image_stands_for_its_replayed_blobs_and_their_bytes(rt: HostRuntime) -> Result<(), Fail> {
+    for (name, image) in [
+        ("in place", settled(rt.alloc(), false)?),
+        ("with two blocks of nodes", settled(rt.alloc(), true)?),
+        ("in the journal", journaled(rt.alloc())?),
+    ] {
+        assert_eq!(rt; found(rt.alloc(), &image)?, Some((2, true)), "{name}");
+        assert!(rt; has_bytes(rt.alloc(), &image, FIRST, 8197, 0xa1)?, "{name}");
+        assert!(rt;
+            has_bytes(rt.alloc(), &image, SECOND, 237_468, 1)?,
+            "{name}"
+        );
+        assert!(rt;
+            bytes_from(rt.alloc(), &image, Digest([0; 32]))?.is_none(),
+            "{name}"
+        );
+    }
+    Ok(())
+}
+
+#[test]
+fn a_torn_entry_leaves_the_blobs_before_it(rt: HostRuntime) -> Result<(), Fail> {
+    let rows = [
+        ("the header's first sector", 17, 0, [0; 8]),
+        ("the header's flags", 17, 5476, [0; 8]),
+        ("a payload's last bytes", 18, 8184, [1; 8]),
+        ("the commit's kind", 6, 16, [1; 8]),
+    ];
+    for (name, block, offset, bytes) in rows {
+        let mut image = journaled(rt.alloc())?;
+        put_at(&mut image, block, offset, &bytes);
+        assert_eq!(rt; found(rt.alloc(), &image)?, Some((0, false)), "{name}");
+        assert!(rt; bytes_from(rt.alloc(), &image, FIRST)?.is_none(), "{name}");
+    }
+    Ok(())
+}
+
+#[test]
+fn one_wrong_byte_in_the_metadata_leaves_no_map(rt: HostRuntime) -> Result<(), Fail> {
+    let rows = [
+        ("the superblock's magic", 0, 0, 0),
+        ("the count of blobs", 0, 64, 3),
+        ("the count of blocks", 0, 72, 33),
+        ("the count of nodes", 0, 80, 5),
+        ("the bit of data block 0", 1, 0, 0x78),
+        ("the bit of the last used data block", 1, 7, 0x22),
+        ("a bit past the last data block", 1, 8, 1),
+        ("the last bit", 1, 8191, 0x80),
+        ("a free node that isn't zero", 2, 64, 1),
+        ("the first node's link", 2, 4, 8),
+        ("the first node's count of extents", 2, 52, 13),
+        ("the last node's previous one", 2, 8136, 8),
+        ("the last node's version", 2, 8130, 1),
+        ("the last node's last extent", 2, 8184, 54),
+        ("the info block's number", 3, 24, 9),
+    ];
+    for (name, block, offset, value) in rows {
+        let mut image = settled(rt.alloc(), false)?;
+        put_at(&mut image, block, offset, &[value]);
+        assert_eq!(rt; found(rt.alloc(), &image)?, None, "{name}");
+    }
+    Ok(())
+}
