@@ -148,18 +148,22 @@ fn put_last(block: &mut Block) {
     put_container(block, 3, 2, [0xff; 4], 127, &EXTENTS[13..]);
 }
 
-/// Fills the blobs' blocks, where data block 0 is at this place: the first blob's tree and data, the
-/// second's data and tree.
-fn fill_data(image: &mut [Block], data: usize) {
-    for (d, byte) in [(57, 0xff), (61, 0xa1), (62, 0xa2)] {
-        set(image, data.saturating_add(d), &[byte; 8192]);
+/// Fills the data blocks of an extent with bytes from one on, where data block 0 is at this place.
+fn fill(image: &mut [Block], data: usize, extent: (u8, u8), first: u8) {
+    for ahead in 0..extent.1 {
+        let at = data.saturating_add(extent.0 as usize + ahead as usize);
+        set(image, at, &[first.wrapping_add(ahead); 8192]);
     }
+}
+
+/// Fills the blobs' blocks: the first blob's tree and data, the second's data and tree.
+fn fill_data(image: &mut [Block], data: usize) {
+    fill(image, data, (57, 1), 0xff);
+    fill(image, data, (61, 2), 0xa1);
     let mut byte = 1u8;
-    for (start, len) in EXTENTS {
-        for d in start as usize..start as usize + len as usize {
-            set(image, data.saturating_add(d), &[byte; 8192]);
-            byte = byte.wrapping_add(1);
-        }
+    for extent in EXTENTS {
+        fill(image, data, extent, byte);
+        byte = byte.wrapping_add(extent.1);
     }
 }
 

@@ -2,7 +2,7 @@
 
 ghost use Rattle.std.specs.Prelude.{◌≡◌, IfSome};
 ghost use Rattle.spec_record.specs.Geometry.{is_block_count, is_node_count, is_journal_count};
-ghost use Rattle.spec_record.specs.Superblock.{super_or_fault, super_of};
+ghost use Rattle.spec_record.specs.Superblock.{super_in, super_or_fault, super_of};
 ghost use Rattle.spec_record.specs.Laws.{SpellsSuper};
 
 use spec_disk::Block;
@@ -57,51 +57,54 @@ macro_rules! ensure_zero {
     };
 }
 
+/// The values in the fields, in their ranges or not.
+fn super_fields(block: &Block) -> Super
+    ensures { result ≡ super_in block.now }
+{
+    Super {
+        geometry: Geometry {
+            blocks: field_of(block, 24, 8),
+            nodes: field_of(block, 32, 8),
+            journal: field_of(block, 40, 8),
+            version: field_of(block, 16, 4) as u32,
+        },
+        blobs: field_of(block, 64, 8),
+        used_blocks: field_of(block, 72, 8),
+        used_nodes: field_of(block, 80, 8),
+    }
+}
+
 /// What a block 0 stands for on a device of so many blocks, or the first row that fails.
 #[tactic(auto, unfolding(spec_record::specs::Superblock::super_or_fault))]
 fn super_tested(block: &Block, device_blocks: u64) -> Result<Super, SuperFault>
     ensures { result ≡ super_or_fault block.now device_blocks }
 {
+    let sup = super_fields(block);
+    let geometry = sup.geometry;
     if field_of(block, 0, 8) != MAGIC || field_of(block, 8, 8) != SECOND_MAGIC {
         return Err(SuperFault::Magic);
     }
-    let version = field_of(block, 16, 4) as u32;
-    if version < 1 || version > 2 {
-        return Err(SuperFault::Version(version));
+    if geometry.version < 1 || geometry.version > 2 {
+        return Err(SuperFault::Version(geometry.version));
     }
-    let geometry = Geometry {
-        blocks: field_of(block, 24, 8),
-        nodes: field_of(block, 32, 8),
-        journal: field_of(block, 40, 8),
-        version,
-    };
-    ensure_count!(has_block_count(version, geometry.blocks) => Blocks = geometry.blocks);
-    ensure_count!(has_node_count(version, geometry.nodes) => Nodes = geometry.nodes);
+    ensure_count!(has_block_count(geometry.version, geometry.blocks) => Blocks = geometry.blocks);
+    ensure_count!(has_node_count(geometry.version, geometry.nodes) => Nodes = geometry.nodes);
     ensure_count!(has_journal_count(geometry) => Journal = geometry.journal);
     let [bitmap, node_map] = [field_of(block, 48, 8), field_of(block, 56, 8)];
     ensure_count!(bitmap == geometry.bitmap() => BitmapBlocks = bitmap);
     ensure_count!(node_map == geometry.node_map() => NodeBlocks = node_map);
-    let blobs = field_of(block, 64, 8);
-    let used_blocks = field_of(block, 72, 8);
-    let used_nodes = field_of(block, 80, 8);
-    ensure_count!(blobs <= geometry.nodes => Blobs = blobs);
-    ensure_count!(1 <= used_blocks && used_blocks <= geometry.blocks => UsedBlocks = used_blocks);
-    ensure_count!(used_nodes <= geometry.nodes => UsedNodes = used_nodes);
+    ensure_count!(sup.blobs <= geometry.nodes => Blobs = sup.blobs);
+    let used = sup.used_blocks;
+    ensure_count!(1 <= used && used <= geometry.blocks => UsedBlocks = used);
+    ensure_count!(sup.used_nodes <= geometry.nodes => UsedNodes = sup.used_nodes);
     ensure_zero!(block from 20, 4);
     ensure_zero!(block from 88, 8104);
     let wanted = geometry.total();
     if wanted > device_blocks {
-        return Err(SuperFault::ShortDevice {
-            wanted,
-            has: device_blocks,
-        });
+        let has = device_blocks;
+        return Err(SuperFault::ShortDevice { wanted, has });
     }
-    Ok(Super {
-        geometry,
-        blobs,
-        used_blocks,
-        used_nodes,
-    })
+    Ok(sup)
 }
 
 /// What a block 0 stands for on a device of so many blocks, or none.
