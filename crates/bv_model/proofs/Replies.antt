@@ -4,7 +4,7 @@ use Rattle.spec_tree.specs.Tree.{need_of}
 use Rattle.spec_tree.specs.declared.Digest.{Digest}
 use Rattle.bv_model.specs.Change.{change}
 use Rattle.bv_model.specs.Choice.{choice, unless_stopped, unless_empty, if_added, begin_choice, open_choice, sync_choice, is_empty, place_of, at_number_end}
-use Rattle.bv_model.specs.Laws.{MayCome, OneReply, SomeReply, IsOpen}
+use Rattle.bv_model.specs.Laws.{MayCome, OneReply, SomeReply, LeavesOpen}
 use Rattle.bv_model.specs.Room.{room_in}
 use Rattle.bv_model.specs.State.{State, find, held, present, is_unlinked}
 use Rattle.bv_model.specs.Step.{Chosen}
@@ -135,7 +135,7 @@ admit_single None c stops = absurd (stops refl)
 sync_single : (s : State) (queue : List Digest) (done : Reply) → fault_of done ≡ [] → IsSingle (sync_choice s queue done)
 sync_single s queue done none = cond_has IsSingle (not (is_empty queue) && at_number_end s) _ _ (only_single _) (writes_single done none)
 
-single : (g : Setting) (s : State) (w : Who) (a : Act) → ¬ IsOpen s a → IsSingle (choice g s w a)
+single : (g : Setting) (s : State) (w : Who) (a : Act) → ¬ LeavesOpen s a → IsSingle (choice g s w a)
 single g s w (Begin r n) m = stopped_has IsSingle s.stopped _ only_single (begin_has IsSingle g s r n only_single)
 single g s w (Admit r) m = added_single (find s.adds r) _ (λ n. admit_single s.stopped _ m)
 single g s w (Put i) m = stopped_has IsSingle s.stopped _ only_single (writes_single Written refl)

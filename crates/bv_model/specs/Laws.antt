@@ -27,9 +27,9 @@ OneNewState =
     → Step g old e new → Step g old e other → new ≡ other
 
 -- the state leaves the reply open: to an admit, while no write or sync has failed
-abbrev pub IsOpen : State → Act → Type 0
-IsOpen s (Admit r) = s.stopped ≡ None
-IsOpen s _ = ⊥
+abbrev pub LeavesOpen : State → Act → Type 0
+LeavesOpen s (Admit r) = s.stopped ≡ None
+LeavesOpen s _ = ⊥
 
 -- given whether the device failed, and with which number, there is one reply, but where the state
 -- leaves it open
@@ -37,7 +37,7 @@ abbrev pub OneReply : Type 0
 OneReply =
     (g : Setting) (s : State) (who : Who) (act : Act) (q r : Reply)
     → Chosen (choice g s who act) q → Chosen (choice g s who act) r
-    → fault_of q ≡ fault_of r → ¬ IsOpen s act → q ≡ r
+    → fault_of q ≡ fault_of r → ¬ LeavesOpen s act → q ≡ r
 
 -- the condition of the table's rows on the event itself
 abbrev pub MayCome : State → Act → Type 0

@@ -162,52 +162,54 @@ fn ends_as_said<R: Abort>(rt: &R, alloc: Global, ending: &Ending) -> Result<(), 
 }
 
 #[test]
-fn an_ending_leaves_the_log_the_map_and_the_room_that_the_table_says(
+fn an_unmount_purges_the_leaving_roots_in_the_order_of_their_bytes_if_there_is_a_number(
     rt: HostRuntime,
 ) -> Result<(), Fail> {
-    let endings = [
-        Ending {
-            name: "unmounts",
-            next: 1,
-            rows: &UNMOUNTS,
-            log: &[
-                publish(A),
-                publish(B),
-                publish(C),
-                purge(B),
-                purge(A),
-                purge(C),
-            ],
-            blobs: 0,
-            room: 15,
-        },
-        Ending {
-            name: "settle fails",
-            next: 1,
-            rows: &SETTLE_FAILS,
-            log: &[publish(A), purge(A), publish(B)],
-            blobs: 1,
-            room: 13,
-        },
-        Ending {
-            name: "numbers end",
-            next: (1 << 62) - 1,
-            rows: &NUMBERS_END,
-            log: &[publish(A)],
-            blobs: 1,
-            room: 14,
-        },
-        Ending {
-            name: "unmount fails",
-            next: 1,
-            rows: &UNMOUNT_FAILS,
-            log: &[publish(A), publish(B), purge(A), purge(B)],
-            blobs: 2,
-            room: 11,
-        },
-    ];
-    for ending in &endings {
-        ends_as_said(&rt, rt.alloc(), ending)?;
-    }
-    Ok(())
+    let unmounts = Ending {
+        name: "unmounts",
+        next: 1,
+        rows: &UNMOUNTS,
+        log: &[
+            publish(A),
+            publish(B),
+            publish(C),
+            purge(B),
+            purge(A),
+            purge(C),
+        ],
+        blobs: 0,
+        room: 15,
+    };
+    ends_as_said(&rt, rt.alloc(), &unmounts)?;
+    let numbers_end = Ending {
+        name: "numbers end",
+        next: (1 << 62) - 1,
+        rows: &NUMBERS_END,
+        log: &[publish(A)],
+        blobs: 1,
+        room: 14,
+    };
+    ends_as_said(&rt, rt.alloc(), &numbers_end)
+}
+
+#[test]
+fn an_entry_that_fails_is_in_the_log_and_leaves_the_map(rt: HostRuntime) -> Result<(), Fail> {
+    let settle_fails = Ending {
+        name: "settle fails",
+        next: 1,
+        rows: &SETTLE_FAILS,
+        log: &[publish(A), purge(A), publish(B)],
+        blobs: 1,
+        room: 13,
+    };
+    ends_as_said(&rt, rt.alloc(), &settle_fails)?;
+    let unmount_fails = Ending {
+        name: "unmount fails",
+        next: 1,
+        rows: &UNMOUNT_FAILS,
+        log: &[publish(A), publish(B), purge(A), purge(B)],
+        blobs: 2,
+        room: 11,
+    };
+    ends_as_said(&rt, rt.alloc(), &unmount_fails)
 }
