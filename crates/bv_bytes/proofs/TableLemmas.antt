@@ -1,7 +1,5 @@
 -- The tables: each word is what its steps make of its byte, which a test shows of a whole table.
-use Rattle.std.proofs.Common.{◌≡◌, ◌<◌, ℕ, zero, suc, ◌+◌, ◌*◌, List, [], ◌∷◌, length, Bool, true, false, ◌&&◌, IsTrue, eqb, get_or, refl, sym, ◌∙◌, ap, arith, zero-add, add-suc, suc-add}
-use Rattle.std.proofs.lemmas.Bool.{eqb-true}
-use Rattle.spec_record.specs.Crc.{crc_step}
+use Rattle.std.proofs.Common.{◌≡◌, ◌<◌, ℕ, zero, suc, ◌+◌, ◌*◌, List, [], ◌∷◌, length, Bool, true, false, ◌&&◌, IsTrue, eqb, get_or, refl, ◌∙◌, ap, arith}
 use Rattle.bv_bytes.specs.Crc.{shifts}
 
 -- these words are those of so many steps, of the bytes from this one on

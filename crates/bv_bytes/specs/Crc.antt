@@ -1,5 +1,5 @@
 -- CRC-32 in steps of whole bytes, for the code that goes over tables.
-use Rattle.std.specs.Prelude.{ℕ, zero, suc, bit_xor, List, ◌++◌}
+use Rattle.std.specs.Prelude.{ℕ, zero, suc, bit_xor, List}
 use Rattle.spec_record.specs.Crc.{crc_step, crc_register, message_bits}
 
 -- what so many steps over zero bits make of a register

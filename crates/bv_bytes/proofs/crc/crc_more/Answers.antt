@@ -1,7 +1,7 @@
 -- A turn takes the first bytes off the rest; the message before counts by its CRC-32 alone.
-use Rattle.std.proofs.Common.{◌≡◌, ℕ, [], ◌∙◌, ap, drop, bit_xor, refl, arith}
+use Rattle.std.proofs.Common.{◌≡◌, ℕ, [], ◌∙◌, ap, drop, bit_xor, refl}
 use Rattle.std.proofs.lemmas.List.{drop_all}
-use Rattle.spec_record.specs.Crc.{crc_register, crc32, message_bits}
+use Rattle.spec_record.specs.Crc.{crc_register, message_bits}
 use Rattle.bv_bytes.specs.Crc.{crc_after}
 use Rattle.bv_bytes.proofs.MessageLemmas.{register_split, register_next, crc_after_message}
 use Rattle.bv_bytes.proofs.crc.crc_more.Goals as goal

@@ -1,5 +1,5 @@
 -- The lowest bytes of the number are copied.
-use Rattle.std.proofs.Common.{◌≡◌, ◌+◌, ◌-◌, ℕ, ◌++◌, take, drop, ap, ◌∙◌, sym, arith, append_assoc}
+use Rattle.std.proofs.Common.{◌≡◌, ◌+◌, ◌-◌, take, drop, ap, ◌∙◌, sym, arith, append_assoc}
 use Rattle.std.proofs.lemmas.List.{drop-drop}
 use Rattle.spec_record.specs.Field.{bytes_of}
 use Rattle.bv_bytes.specs.Rows.{with_field}

@@ -1,6 +1,4 @@
 -- What the write leaves, by the laws of one field.
-use Rattle.std.proofs.Common.{◌∙◌, ap}
-use Rattle.spec_record.specs.Field.{field, fields}
 use Rattle.bv_bytes.proofs.RowLemmas.{field-with_same, field-with_other, fields-with}
 use Rattle.bv_bytes.proofs.field.Field.put.Goals as goal
 
