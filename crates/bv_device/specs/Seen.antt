@@ -5,13 +5,15 @@ use Rattle.spec_faults.specs.Faults.{CountsFaults}
 use Rattle.bv_device.specs.Told.{Disk}
 use Rattle.bv_device.specs.Plan.{Follows, CountsCalls}
 
--- what a contract sees of a device: its blocks at the opening and its writes and syncs since, where
--- it tells them; how many blocks it has, how many writes and syncs it has made, of those that left
--- an event, and how many of its calls have failed, which never falls
+-- what a contract sees of a device
 pub record Seen : Type 0 where
+  -- its blocks at the opening and its writes and syncs since, where it tells them
   pub told : Option Disk
+  -- how many blocks it has
   pub block_count : ℕ
+  -- how many writes and syncs it has made, of those that left an event
   pub calls_made : ℕ
+  -- how many of its calls have failed, which never falls
   pub fault_count : ℕ
 
 -- A run of writes and syncs did all of this plan at Ok, and a beginning of it at an error.
