@@ -1,3 +1,4 @@
+-- The state machine of a volume: its state, its steps, its histories, and what these leave.
 pub mod Change
 pub mod Choice
 pub mod Core

@@ -1,3 +1,4 @@
+-- Images of volumes: journals, chains, metadata, blobs, windows, and what a stop leaves by chance.
 pub mod Same
 pub mod Journal
 pub mod Replay

@@ -13,11 +13,8 @@ ghost use Rattle.spec_image.specs.Journal.{journal_with};
 ghost use Rattle.spec_image.specs.Replay.{replay, next_slot, next_number, is_stale_block, stale_slots};
 
 use spec_disk::Block;
-use spec_record::{Info, field_of, first_entry_fault, restored_of};
+use spec_record::{Info, field_of, first_entry_fault, flag_at, has_magic, restored_of, target_of};
 use std::alloc::{AllocError, Global};
-
-/// The magic of headers and commits.
-const MAGIC: u64 = 0x626c_6f62_6e74_7279;
 
 /// An accepted entry: its number, and the new bytes of each metadata block that it names.
 #[derive(Drop)]
@@ -65,9 +62,8 @@ fn targets_of(
     let header = &blocks[0];
     let mut targets = Vec::new(alloc);
     for place in 0..count {
-        let target = field_of(header, 40 + 8 * place, 8);
-        let flag = field_of(header, 5472 + 4 * place, 4);
-        targets.push((target, restored_of(flag, &blocks[place + 1])))?;
+        let payload = restored_of(flag_at(header, place), &blocks[place + 1]);
+        targets.push((target_of(header, place), payload))?;
     }
     Ok(targets)
 }
@@ -112,7 +108,7 @@ fn accepted_at(
 fn is_stale(block: &Block, number: u64) -> bool
     ensures { result ≡ is_stale_block number block.now }
 {
-    field_of(block, 0, 8) == MAGIC && number <= field_of(block, 8, 8)
+    has_magic(block) && number <= field_of(block, 8, 8)
 }
 
 /// The stale slots among so many from a slot on, for the number that would stand there.

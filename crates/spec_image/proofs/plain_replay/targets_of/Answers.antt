@@ -16,7 +16,7 @@ loop-place-preserved c =
     let next : 1 + i ≡ i + 1 = omega arith in
     let payload : get_or payloads i [] ≡ get_or blocks (i + 1) [] =
     get_or-take c.args.count (drop 1 blocks) i [] (omega arith) ∙ get_or-drop 1 blocks i [] ∙ ap (λ (k : ℕ). get_or blocks k []) next in
-    let restored_is : c.restored_of.result ≡ restored (flag_in header i) (get_or payloads i []) =
-    c.restored_of.ensures ∙ ap (λ (flag : ℕ). restored flag (get_or blocks (i + 1) [])) c.field_of-flag.ensures.value ∙ ap (restored (flag_in header i)) (sym payload) in
-    targets_pushed header payloads i c.field_of-target.result c.restored_of.result c.loop-place.targets.items c.push.new.self.items _ below
-    c.field_of-target.ensures.value restored_is c.in_ok-push.ensures.items c.loop-place.invariant
+    let restored_is : c.restored_of-payload.result ≡ restored (flag_in header i) (get_or payloads i []) =
+    c.restored_of-payload.ensures ∙ ap (λ (flag : ℕ). restored flag (get_or blocks (i + 1) [])) c.flag_at.ensures ∙ ap (restored (flag_in header i)) (sym payload) in
+    targets_pushed header payloads i c.target_of.result c.restored_of-payload.result c.loop-place.targets.items c.push.new.self.items _ below
+    c.target_of.ensures restored_is c.in_ok-push.ensures.items c.loop-place.invariant
