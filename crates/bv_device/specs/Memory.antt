@@ -1,5 +1,5 @@
 -- A device in memory, as contracts see it, and what a call makes of it.
-use Rattle.std.specs.Prelude.{◌≡◌, ℕ, ◌+◌, ◌-◌, ◌^◌, ◌<◌, ◌≤◌, List, [], ◌∷◌, ◌++◌, ◌⊎◌, length, map, Contains, Bool, true, false, if◌then◌else◌, Result, Ok, Err}
+use Rattle.std.specs.Prelude.{◌≡◌, ℕ, ◌-◌, ◌^◌, ◌<◌, ◌≤◌, List, [], ◌∷◌, ◌++◌, ◌⊎◌, length, map, Contains, Bool, true, false, if◌then◌else◌, Result, Ok, Err}
 use Rattle.spec_disk.specs.Disk.{Blocks, now_after}
 use Rattle.spec_disk.specs.declared.event.Event.{Event}
 use Rattle.spec_faults.specs.Faults.{one_more}
