@@ -15,31 +15,31 @@ use Rattle.spec_tree.specs.Tree.{need_of}
 use Rattle.spec_tree.specs.declared.Digest.{Digest}
 use Rattle.spec_tree.specs.declared.blob.Blob.{Blob}
 use Rattle.spec_tree.specs.Order.{digest_cmp, same_digest}
-use Rattle.bv_model.proofs.Counting.{count-cons, count-insert_entry, count-remove_entry-le, none-counted, none-left}
-use Rattle.bv_model.proofs.EntryLemmas.{lookup-insert_entry, lookup-remove_other}
-use Rattle.bv_model.proofs.Holding.{digest_total, one_digest, changed-append}
+use Rattle.spec_core.proofs.Counting.{count-cons, count-insert_entry, count-remove_entry-le, none-counted, none-left}
+use Rattle.spec_core.proofs.EntryLemmas.{lookup-insert_entry, lookup-remove_other}
+use Rattle.spec_core.proofs.Holding.{digest_total, one_digest, changed-append}
 use Rattle.bv_model.proofs.Rescans.{steps_to}
-use Rattle.bv_model.specs.Change.{change, begun, admitted, put_done, blob_of, settled, opened, let_go, emptied, closed, unlinked, sync_done, slots_emptied, unmount_done, made_durable, add_ends}
-use Rattle.bv_model.specs.Choice.{choice, settle_choice, if_added, place_of, unless_stopped}
-use Rattle.bv_model.specs.History.{History, setting_of, opening_map, first_state, Legal}
-use Rattle.bv_model.specs.Log.{changed, purges, purge_of, without, queued, failed}
-use Rattle.bv_model.specs.Order.{place_cmp}
+use Rattle.spec_core.specs.Change.{change, begun, admitted, put_done, blob_of, settled, opened, let_go, emptied, closed, unlinked, sync_done, slots_emptied, unmount_done, made_durable, add_ends}
+use Rattle.spec_core.specs.Choice.{choice, settle_choice, if_added, place_of, unless_stopped}
+use Rattle.spec_core.specs.History.{History, setting_of, opening_map, first_state, Legal}
+use Rattle.spec_core.specs.Log.{changed, purges, purge_of, without, queued, failed}
+use Rattle.spec_core.specs.Order.{place_cmp}
 use Rattle.bv_model.specs.Rescan.{state_at}
-use Rattle.bv_model.specs.Room.{room_in}
-use Rattle.bv_model.specs.State.{State, find, among, held, holders, is_held, is_unlinked, present}
-use Rattle.bv_model.specs.Step.{Chosen, after, state_after, Steps}
-use Rattle.bv_model.specs.declared.act.Act.{Act}
-use Rattle.bv_model.specs.declared.act.Act.TheVariants.{Begin, Admit, Put, Settle, Retire, Open, Fetch, Read, Scan, Close, Unlink, Sync, List as ListAll, Unmount}
-use Rattle.bv_model.specs.declared.choice.Choice.{Choice}
-use Rattle.bv_model.specs.declared.choice.Choice.TheVariants.{Only}
-use Rattle.bv_model.specs.declared.event.CoreEvent.{CoreEvent}
-use Rattle.bv_model.specs.declared.map_change.MapChange.{MapChange}
-use Rattle.bv_model.specs.declared.map_change.MapChange.TheVariants.{Publish}
-use Rattle.bv_model.specs.declared.place.Place.{Place}
-use Rattle.bv_model.specs.declared.reply.Reply.{Reply}
-use Rattle.bv_model.specs.declared.reply.Reply.TheVariants.{Granted, Admitted, Published, Opened, Closed, Unlinked, Synced, Unmounted, DeviceFault, Exists, Leaving, InFlight, NoSpace}
-use Rattle.bv_model.specs.declared.setting.Setting.{Setting}
-use Rattle.bv_model.specs.declared.who.Who.{Who}
+use Rattle.spec_core.specs.Room.{room_in}
+use Rattle.spec_core.specs.State.{State, find, among, held, holders, is_held, is_unlinked, present}
+use Rattle.spec_core.specs.Step.{Chosen, after, state_after, Steps}
+use Rattle.spec_core.specs.declared.act.Act.{Act}
+use Rattle.spec_core.specs.declared.act.Act.TheVariants.{Begin, Admit, Put, Settle, Retire, Open, Fetch, Read, Scan, Close, Unlink, Sync, List as ListAll, Unmount}
+use Rattle.spec_core.specs.declared.choice.Choice.{Choice}
+use Rattle.spec_core.specs.declared.choice.Choice.TheVariants.{Only}
+use Rattle.spec_core.specs.declared.event.CoreEvent.{CoreEvent}
+use Rattle.spec_core.specs.declared.map_change.MapChange.{MapChange}
+use Rattle.spec_core.specs.declared.map_change.MapChange.TheVariants.{Publish}
+use Rattle.spec_core.specs.declared.place.Place.{Place}
+use Rattle.spec_core.specs.declared.reply.Reply.{Reply}
+use Rattle.spec_core.specs.declared.reply.Reply.TheVariants.{Granted, Admitted, Published, Opened, Closed, Unlinked, Synced, Unmounted, DeviceFault, Exists, Leaving, InFlight, NoSpace}
+use Rattle.spec_core.specs.declared.setting.Setting.{Setting}
+use Rattle.spec_core.specs.declared.who.Who.{Who}
 
 -- ---- entries at a root
 

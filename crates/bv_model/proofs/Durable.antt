@@ -1,16 +1,15 @@
 -- What is durable, and what was logged, by so many calls: event by event.
-use Rattle.std.proofs.Common.{◌≡◌, ℕ, ◌+◌, ◌<◌, ◌≤◌, Bool, true, false, cond, ◌&&◌, nat_le, List, [], ◌∷◌, length, map, drop, get_or, drop-cons, add-one, refl, ap, sym, ◌∙◌}
-use Rattle.std.proofs.Common.{drop_of_length-le}
-use Rattle.bv_model.proofs.Numbers.{Renumbered, after_apart, numbers_are_apart}
+use Rattle.std.proofs.Common.{◌≡◌, ℕ, ◌+◌, ◌<◌, ◌≤◌, Bool, true, false, cond, ◌&&◌, nat_le, List, [], ◌∷◌, length, map, drop, get_or, drop-cons, add-one, refl, ap, sym, ◌∙◌, drop_of_length-le}
+use Rattle.spec_core.proofs.Numbers.{Renumbered, after_apart, numbers_are_apart}
 use Rattle.bv_model.proofs.Rescans.{state_more}
-use Rattle.bv_model.proofs.Timing.{picks}
-use Rattle.bv_model.specs.History.{History, setting_of, opening_map, first_state, last_state, log_of}
+use Rattle.spec_core.proofs.Timing.{picks}
+use Rattle.spec_core.specs.History.{History, setting_of, opening_map, first_state, last_state, log_of}
 use Rattle.bv_model.specs.Rescan.{state_at}
-use Rattle.bv_model.specs.State.{State}
-use Rattle.bv_model.specs.Step.{after}
-use Rattle.bv_model.specs.Synced.{lengths_from, lengths_where, first_or, last_or, tells_durable, synced_by, logged_by}
-use Rattle.bv_model.specs.declared.event.CoreEvent.{CoreEvent}
-use Rattle.bv_model.specs.declared.setting.Setting.{Setting}
+use Rattle.spec_core.specs.State.{State}
+use Rattle.spec_core.specs.Step.{after}
+use Rattle.spec_core.specs.Synced.{lengths_from, lengths_where, first_or, last_or, tells_durable, synced_by, logged_by}
+use Rattle.spec_core.specs.declared.event.CoreEvent.{CoreEvent}
+use Rattle.spec_core.specs.declared.setting.Setting.{Setting}
 
 lengths_apart : (g : Setting) (s t : State) (es : List CoreEvent) → Renumbered s t → lengths_from g s es ≡ lengths_from g t es
 lengths_apart g s t [] same = refl

@@ -4,13 +4,13 @@ use Rattle.std.proofs.lemmas.List.{append-nil}
 use Rattle.std.specs.Map.{lookup, remove_entry}
 use Rattle.spec_tree.specs.declared.Digest.{Digest}
 use Rattle.std.specs.BTreeMap.{insert_entry, is_at}
-use Rattle.bv_model.proofs.Holding.{changed-append}
-use Rattle.bv_model.specs.Log.{changed, purges, purge_of, without, queued, flushed}
+use Rattle.spec_core.proofs.Holding.{changed-append}
+use Rattle.spec_core.specs.Log.{changed, purges, purge_of, without, queued, flushed}
 use Rattle.spec_tree.specs.Order.{digest_cmp}
-use Rattle.bv_model.specs.State.{State, find}
+use Rattle.spec_core.specs.State.{State, find}
 use Rattle.spec_tree.specs.declared.blob.Blob.{Blob}
-use Rattle.bv_model.specs.declared.map_change.MapChange.{MapChange}
-use Rattle.bv_model.specs.declared.map_change.MapChange.TheVariants.{Publish}
+use Rattle.spec_core.specs.declared.map_change.MapChange.{MapChange}
+use Rattle.spec_core.specs.declared.map_change.MapChange.TheVariants.{Publish}
 
 -- to remove what isn't there changes nothing
 remove_none : {K X : Type 0} (test : K → Bool) (es : List (K × X)) → lookup test es ≡ None → remove_entry test es ≡ es

@@ -10,30 +10,30 @@ use Rattle.spec_tree.specs.declared.blob.Blob.{Blob}
 use Rattle.spec_tree.specs.Order.{digest_cmp, same_digest}
 use Rattle.spec_tree.specs.Tree.{need_of}
 use Rattle.bv_model.proofs.Adds.{Tabled, find-without, find-purged, granted_new, settled_added, tabled_at}
-use Rattle.bv_model.proofs.EntryLemmas.{lookup-insert_entry}
-use Rattle.bv_model.proofs.Holding.{digest_total, one_digest, changed-append}
+use Rattle.spec_core.proofs.EntryLemmas.{lookup-insert_entry}
+use Rattle.spec_core.proofs.Holding.{digest_total, one_digest, changed-append}
 use Rattle.bv_model.proofs.Rescans.{fits_at, state_more}
-use Rattle.bv_model.specs.Change.{change, begun, admitted, put_done, blob_of, settled, opened, let_go, emptied, closed, unlinked, sync_done, slots_emptied, unmount_done, made_durable, add_ends}
-use Rattle.bv_model.specs.Choice.{choice, place_of}
-use Rattle.bv_model.specs.History.{History, setting_of, opening_map, Legal}
-use Rattle.bv_model.specs.Log.{changed, queued}
-use Rattle.bv_model.specs.Order.{place_cmp}
+use Rattle.spec_core.specs.Change.{change, begun, admitted, put_done, blob_of, settled, opened, let_go, emptied, closed, unlinked, sync_done, slots_emptied, unmount_done, made_durable, add_ends}
+use Rattle.spec_core.specs.Choice.{choice, place_of}
+use Rattle.spec_core.specs.History.{History, setting_of, opening_map, Legal}
+use Rattle.spec_core.specs.Log.{changed, queued}
+use Rattle.spec_core.specs.Order.{place_cmp}
 use Rattle.bv_model.specs.Rescan.{state_at}
-use Rattle.bv_model.specs.Room.{blob_need}
-use Rattle.bv_model.specs.State.{State, find, among, held, is_held}
-use Rattle.bv_model.specs.Step.{Chosen}
+use Rattle.spec_core.specs.Room.{blob_need}
+use Rattle.spec_core.specs.State.{State, find, among, held, is_held}
+use Rattle.spec_core.specs.Step.{Chosen}
 use Rattle.bv_model.specs.Taking.{Knows, known_next, adding_of, begin_adding, admit_adding, settle_adding, add_need, NeedsAt}
-use Rattle.bv_model.specs.declared.act.Act.{Act}
-use Rattle.bv_model.specs.declared.act.Act.TheVariants.{Begin, Admit, Put, Settle, Retire, Open, Fetch, Read, Scan, Close, Unlink, Sync, List as ListAll, Unmount}
+use Rattle.spec_core.specs.declared.act.Act.{Act}
+use Rattle.spec_core.specs.declared.act.Act.TheVariants.{Begin, Admit, Put, Settle, Retire, Open, Fetch, Read, Scan, Close, Unlink, Sync, List as ListAll, Unmount}
 use Rattle.bv_model.specs.declared.adding.Adding.TheVariants.{Begins, Ends, Publishes}
-use Rattle.bv_model.specs.declared.event.CoreEvent.{CoreEvent}
-use Rattle.bv_model.specs.declared.map_change.MapChange.TheVariants.{Publish}
-use Rattle.bv_model.specs.declared.place.Place.{Place}
-use Rattle.bv_model.specs.declared.reply.Reply.{Reply}
-use Rattle.bv_model.specs.declared.reply.Reply.TheVariants.{Granted, Admitted, Published, Opened, Closed, Unlinked, Synced, Unmounted, DeviceFault}
+use Rattle.spec_core.specs.declared.event.CoreEvent.{CoreEvent}
+use Rattle.spec_core.specs.declared.map_change.MapChange.TheVariants.{Publish}
+use Rattle.spec_core.specs.declared.place.Place.{Place}
+use Rattle.spec_core.specs.declared.reply.Reply.{Reply}
+use Rattle.spec_core.specs.declared.reply.Reply.TheVariants.{Granted, Admitted, Published, Opened, Closed, Unlinked, Synced, Unmounted, DeviceFault}
 use Rattle.bv_model.specs.declared.room.Known.{Known}
-use Rattle.bv_model.specs.declared.setting.Setting.{Setting}
-use Rattle.bv_model.specs.declared.who.Who.{Who}
+use Rattle.spec_core.specs.declared.setting.Setting.{Setting}
+use Rattle.spec_core.specs.declared.who.Who.{Who}
 
 module _ (g : Setting) (s : State) (r : Digest) (k : Known) (n : Knows g s r k) (t : Tabled s) where
   knows_granted : (x : Digest) (size : ℕ) → find s.map x ≡ None → Knows g (record s { adds = insert_entry digest_cmp s.adds x size }) r (known_next r k g.version (Begins x size))

@@ -4,8 +4,8 @@ use Rattle.std.specs.List.{sum_by}
 use Rattle.std.specs.Map.{values_of}
 use Rattle.spec_tree.specs.declared.Digest.{Digest}
 use Rattle.spec_tree.specs.declared.blob.Blob.{Blob}
-use Rattle.bv_model.specs.Room.{blob_need}
-use Rattle.bv_model.specs.State.{find}
+use Rattle.spec_core.specs.Room.{blob_need}
+use Rattle.spec_core.specs.State.{find}
 
 -- the entry of an opening map
 abbrev pub entry : Digest × ℕ × ℕ → Digest × Blob

@@ -2,7 +2,7 @@
 use Rattle.std.proofs.Common.{◌≡◌, ℕ, ◌+◌, ◌-◌, ◌≤◌, ◌<◌, ◌==◌, Bool, true, false, cond, not, ◌&&◌, ◌||◌, Option, Some, None, List, [], ◌∷◌, ◌++◌, length, take, drop, get_or, refl, ap, sym, ◌∙◌, arith}
 use Rattle.std.specs.Ordering.{eq_by_cmp}
 use Rattle.std.specs.Cmp.{eq_by_cmp_equiv}
-use Rattle.std.specs.List.{count_by, list_any}
+use Rattle.std.specs.List.{count_by}
 use Rattle.std.specs.BTreeMap.{insert_entry, is_at}
 use Rattle.std.specs.BTreeSet.{insert_key}
 use Rattle.std.specs.Map.{remove_entry}
@@ -10,33 +10,30 @@ use Rattle.std.specs.Set.{remove_key}
 use Rattle.std.proofs.lemmas.List.{take_all, take_more, take-append-drop}
 use Rattle.spec_tree.specs.declared.Digest.{Digest}
 use Rattle.spec_tree.specs.Order.{digest_cmp, same_digest}
-use Rattle.bv_model.proofs.Counting.{eq_from, any-count, count-insert_entry, count-remove_entry, count-remove_entry-le, none-counted, none-left, count-insert_key-le, count-remove_key, any-insert_key, any-remove_other}
-use Rattle.bv_model.proofs.Deeds.{by_deed, alike, ready, Ready}
-use Rattle.bv_model.proofs.EntryLemmas.{lookup-insert_entry, lookup-remove_other}
-use Rattle.bv_model.proofs.Histories.{state_after-push, Steps-pop}
-use Rattle.bv_model.proofs.Holding.{digest_total, one_digest}
-use Rattle.bv_model.proofs.Slots.{place_total, one_place, let_go_slots}
-use Rattle.bv_model.specs.Change.{let_go, emptied, unlinked}
-use Rattle.bv_model.specs.History.{History, setting_of, opening_map, first_state, last_state, Legal}
-use Rattle.bv_model.specs.Order.{place_cmp}
-use Rattle.bv_model.specs.Deeds.{deed_of}
+use Rattle.spec_core.proofs.Counting.{any-count, not_among, count-insert_entry, count-remove_entry, count-remove_entry-le, none-counted, none-left, count-insert_key-le, count-remove_key, any-insert_key, any-remove_other}
+use Rattle.spec_core.proofs.Deeds.{by_deed, alike, its_deed, ready, Ready}
+use Rattle.spec_core.proofs.EntryLemmas.{lookup-insert_entry, lookup-remove_other}
+use Rattle.spec_core.proofs.Histories.{state_after-push, Steps-front, Steps-pop}
+use Rattle.spec_core.proofs.Holding.{one_digest, same_self}
+use Rattle.spec_core.proofs.Slots.{place_total, one_place, let_go_slots}
+use Rattle.spec_core.specs.Change.{let_go, emptied, unlinked}
+use Rattle.spec_core.specs.History.{History, setting_of, opening_map, first_state, last_state, Legal}
+use Rattle.spec_core.specs.Order.{place_cmp}
+use Rattle.spec_core.specs.Deeds.{deed_of}
 use Rattle.bv_model.specs.Rescan.{state_at, held_next, standing_in, standing_next, less_one, is_root, closed_root}
-use Rattle.bv_model.specs.State.{State, among, held, holders, is_held}
-use Rattle.bv_model.specs.Step.{Fits, after, state_after, Steps}
-use Rattle.bv_model.specs.declared.event.CoreEvent.{CoreEvent}
-use Rattle.bv_model.specs.declared.deed.Deed.{Deed}
-use Rattle.bv_model.specs.declared.deed.Deed.TheVariants.{Nothing, Opens, Closes, Unlinks, Publishes, Purges, Empties}
-use Rattle.bv_model.specs.declared.place.Place.{Place}
-use Rattle.bv_model.specs.declared.reply.Reply.TheVariants.{Unlinked}
-use Rattle.bv_model.specs.declared.setting.Setting.{Setting}
+use Rattle.spec_core.specs.State.{State, among, held, holders, is_held}
+use Rattle.spec_core.specs.Step.{Fits, after, state_after, Steps}
+use Rattle.spec_core.specs.declared.event.CoreEvent.{CoreEvent}
+use Rattle.spec_core.specs.declared.deed.Deed.{Deed}
+use Rattle.spec_core.specs.declared.deed.Deed.TheVariants.{Nothing, Opens, Closes, Unlinks, Publishes, Purges, Empties}
+use Rattle.spec_core.specs.declared.place.Place.{Place}
+use Rattle.spec_core.specs.declared.reply.Reply.TheVariants.{Unlinked}
+use Rattle.spec_core.specs.declared.setting.Setting.{Setting}
 
 -- a place is once in the slots, and a root once among those that leave
 pub record Tidy (s : State) : Type 0 where
   pub places : (p : Place) → count_by (λ e. is_at (place_cmp p) e.0) s.slots ≤ 1
   pub roots : (r : Digest) → count_by (same_digest r) s.leaving ≤ 1
-
-pub same_self : (r : Digest) → same_digest r r ≡ true
-same_self r = (eq_by_cmp_equiv digest_total).refl r
 
 -- ---- slots
 
@@ -193,17 +190,6 @@ tidy_emptied s p (Some x) t =
     tidy_let_go (record s { slots = remove_entry (is_at (place_cmp p)) s.slots }) x (record { places = λ q. omega (arith, t.places q, count-remove_entry-le (λ e. is_at (place_cmp q) e.0) (is_at (place_cmp p)) s.slots); roots = t.roots })
 tidy_emptied s p None t = t
 
-pub not_among : (q : Digest → Bool) (xs : List Digest) → list_any q xs ≡ false → count_by q xs ≡ 0
-not_among q [] h = refl
-not_among q (x ∷ xs) h = zero (count_by q (x ∷ xs)) (sym (any-count q (x ∷ xs)) ∙ h)
-  where
-    zero : (n : ℕ) → not (n == 0) ≡ false → n ≡ 0
-    zero n h = go (n == 0) refl h
-      where
-        go : (b : Bool) → (n == 0) ≡ b → not b ≡ false → n ≡ 0
-        go true e h = eq_from n 0 e
-        go false e h = cc
-
 tidy_unlinked : (s : State) (x : Digest) → Tidy s → among s.leaving x ≡ false → Tidy (unlinked s x Unlinked)
 tidy_unlinked s x t free = go (is_held s.slots x)
   where
@@ -240,10 +226,6 @@ tidy_run g s (e ∷ es) t a = tidy_run g (after g s e) es (tidy_after g s e t a.
 
 -- ---- the first events of a history
 
-Steps-front : (g : Setting) (s : State) (xs ys : List CoreEvent) → Steps g s (xs ++ ys) → Steps g s xs
-Steps-front g s [] ys a = tt
-Steps-front g s (e ∷ xs) ys a = (a.0, Steps-front g (after g s e) xs ys a.1)
-
 module _ (h : History) (next : ℕ) (legal : Legal h next) where
   pub steps_to : (i : ℕ) → Steps (setting_of h) (first_state (opening_map h) next) (take i h.events)
   steps_to i = Steps-front (setting_of h) (first_state (opening_map h) next) (take i h.events) (drop i h.events) (rw (take-append-drop i h.events) legal.steps)
@@ -259,10 +241,6 @@ state_more h next i d short = ap (state_after (setting_of h) (first_state (openi
 
 pub state_at_end : (h : History) (next i : ℕ) → i ≡ length h.events → state_at h next i ≡ last_state h next
 state_at_end h next i e = ap (λ es. state_after (setting_of h) (first_state (opening_map h) next) es) (ap (λ n. take n h.events) e ∙ take_all (length h.events) h.events (omega arith))
-
--- the deed of an event
-abbrev pub its_deed : CoreEvent → Deed
-its_deed e = deed_of e.who e.act e.reply
 
 pub held_more : (h : History) (next i : ℕ) (d : CoreEvent) (p : Place) → Legal h next → i < length h.events → held (state_at h next (i + 1)).slots p ≡ held_next p (held (state_at h next i).slots p) (its_deed (get_or h.events i d))
 held_more h next i d p legal short =

@@ -14,34 +14,35 @@ use Rattle.spec_tree.specs.declared.Digest.{Digest}
 use Rattle.spec_tree.specs.declared.blob.Blob.{Blob}
 use Rattle.spec_tree.specs.Order.{digest_cmp, same_digest}
 use Rattle.bv_model.proofs.Adds.{Tabled, granted_new, settled_added, find-purged_none, tabled_slots_emptied, tabled_at}
-use Rattle.bv_model.proofs.Deeds.{ready, went, settle_went, unmount_went}
-use Rattle.bv_model.proofs.Holding.{one_digest, changed-append}
-use Rattle.bv_model.proofs.Lengths.{Once, once_at, once_slots_emptied}
-use Rattle.bv_model.proofs.Numbers.{numbers_are_apart}
-use Rattle.bv_model.proofs.Rescans.{same_self, is_held_by_count, less, holders_less, fits_at, state_more}
+use Rattle.spec_core.proofs.Deeds.{ready, went, settle_went, unmount_went}
+use Rattle.spec_core.proofs.Holding.{one_digest, changed-append, same_self}
+use Rattle.spec_core.proofs.Once.{Once, once_slots_emptied}
+use Rattle.bv_model.proofs.Lengths.{once_at}
+use Rattle.spec_core.proofs.Numbers.{numbers_are_apart}
+use Rattle.bv_model.proofs.Rescans.{is_held_by_count, less, holders_less, fits_at, state_more}
 use Rattle.bv_model.proofs.Sums.{sum_by-push}
 use Rattle.bv_model.proofs.Takings.{need_in, need_at, need_found, purged-need, queued-need, leaving-flushed, leaving-published, leaving_blob, sum-insert_entry, sum-insert_key, sum-remove_key}
-use Rattle.bv_model.specs.Change.{change, begun, admitted, put_done, blob_of, settled, opened, emptied, closed, unlinked, sync_done, slots_emptied, unmount_done, made_durable, add_ends}
-use Rattle.bv_model.specs.Choice.{choice, is_empty, place_of, settle_choice, sync_choice}
-use Rattle.bv_model.specs.History.{History, setting_of, opening_map, last_state, room, Legal}
-use Rattle.bv_model.specs.Log.{changed, queued, failed}
-use Rattle.bv_model.specs.Deeds.{deed_of}
+use Rattle.spec_core.specs.Change.{change, begun, admitted, put_done, blob_of, settled, opened, emptied, closed, unlinked, sync_done, slots_emptied, unmount_done, made_durable, add_ends}
+use Rattle.spec_core.specs.Choice.{choice, is_empty, place_of, settle_choice, sync_choice}
+use Rattle.spec_core.specs.History.{History, setting_of, opening_map, last_state, room, Legal}
+use Rattle.spec_core.specs.Log.{changed, queued, failed}
+use Rattle.spec_core.specs.Deeds.{deed_of}
 use Rattle.bv_model.specs.Rescan.{state_at, standing_of_root, standing_for}
-use Rattle.bv_model.specs.Room.{blob_need, purge_need, taken, room_in}
-use Rattle.bv_model.specs.State.{State, find, among, held, holders}
-use Rattle.bv_model.specs.Step.{Chosen}
+use Rattle.spec_core.specs.Room.{blob_need, purge_need, taken, room_in}
+use Rattle.spec_core.specs.State.{State, find, among, held, holders}
+use Rattle.spec_core.specs.Step.{Chosen}
 use Rattle.bv_model.specs.Taking.{add_need, NeedsAt, NeedsOf, all_freed, all_let_go, taken_next}
-use Rattle.bv_model.specs.declared.act.Act.{Act}
-use Rattle.bv_model.specs.declared.act.Act.TheVariants.{Begin, Admit, Put, Settle, Retire, Open, Fetch, Read, Scan, Close, Unlink, Sync, List as ListAll, Unmount}
-use Rattle.bv_model.specs.declared.event.CoreEvent.{CoreEvent}
-use Rattle.bv_model.specs.declared.map_change.MapChange.{MapChange}
-use Rattle.bv_model.specs.declared.map_change.MapChange.TheVariants.{Publish}
-use Rattle.bv_model.specs.declared.place.Place.{Place}
-use Rattle.bv_model.specs.declared.reply.Reply.{Reply}
-use Rattle.bv_model.specs.declared.reply.Reply.TheVariants.{Granted, Admitted, Published, Opened, Closed, Unlinked, Synced, Unmounted, DeviceFault}
+use Rattle.spec_core.specs.declared.act.Act.{Act}
+use Rattle.spec_core.specs.declared.act.Act.TheVariants.{Begin, Admit, Put, Settle, Retire, Open, Fetch, Read, Scan, Close, Unlink, Sync, List as ListAll, Unmount}
+use Rattle.spec_core.specs.declared.event.CoreEvent.{CoreEvent}
+use Rattle.spec_core.specs.declared.map_change.MapChange.{MapChange}
+use Rattle.spec_core.specs.declared.map_change.MapChange.TheVariants.{Publish}
+use Rattle.spec_core.specs.declared.place.Place.{Place}
+use Rattle.spec_core.specs.declared.reply.Reply.{Reply}
+use Rattle.spec_core.specs.declared.reply.Reply.TheVariants.{Granted, Admitted, Published, Opened, Closed, Unlinked, Synced, Unmounted, DeviceFault}
 use Rattle.bv_model.specs.declared.room.Taken.{Taken}
-use Rattle.bv_model.specs.declared.setting.Setting.{Setting}
-use Rattle.bv_model.specs.declared.who.Who.{Who}
+use Rattle.spec_core.specs.declared.setting.Setting.{Setting}
+use Rattle.spec_core.specs.declared.who.Who.{Who}
 
 -- the blocks of purges, of the queue and of what leaves, while nothing failed
 pub record Counts (s : State) (t : Taken) : Type 0 where

@@ -14,16 +14,15 @@ use Rattle.std.proofs.lemmas.Map.Entries.{sum_by-remove_entry}
 use Rattle.spec_tree.specs.declared.Digest.{Digest}
 use Rattle.spec_tree.specs.declared.blob.Blob.{Blob}
 use Rattle.spec_tree.specs.Order.{digest_cmp, same_digest}
-use Rattle.bv_model.proofs.EntryLemmas.{lookup-remove_other, lookup-insert_entry}
+use Rattle.spec_core.proofs.EntryLemmas.{lookup-remove_other, lookup-insert_entry}
 use Rattle.bv_model.proofs.Flush.{changed_by_one}
-use Rattle.bv_model.proofs.Holding.{digest_total, one_digest, changed-append, find-purges}
-use Rattle.bv_model.proofs.Lengths.{Once, times, most, some_times, once_left, times-head, at_most_one}
-use Rattle.bv_model.proofs.Rescans.{same_self}
-use Rattle.bv_model.specs.Log.{changed, purges, purge_of, without, queued}
-use Rattle.bv_model.specs.Room.{blob_need, purge_need}
-use Rattle.bv_model.specs.State.{State, find, among}
-use Rattle.bv_model.specs.declared.map_change.MapChange.{MapChange}
-use Rattle.bv_model.specs.declared.map_change.MapChange.TheVariants.{Publish, Purge}
+use Rattle.spec_core.proofs.Holding.{digest_total, one_digest, changed-append, find-purges, same_self}
+use Rattle.spec_core.proofs.Once.{Once, times, most, some_times, once_left, times-head, at_most_one}
+use Rattle.spec_core.specs.Log.{changed, purges, purge_of, without, queued}
+use Rattle.spec_core.specs.Room.{blob_need, purge_need}
+use Rattle.spec_core.specs.State.{State, find, among}
+use Rattle.spec_core.specs.declared.map_change.MapChange.{MapChange}
+use Rattle.spec_core.specs.declared.map_change.MapChange.TheVariants.{Publish, Purge}
 
 -- ---- sums over entries and keys, one more or fewer
 

@@ -1,6 +1,6 @@
 -- What a history in memory stands for.
 use Rattle.std.specs.Prelude.{◌+◌, ◌≤◌, vec_len, vec_capacity}
-use Rattle.bv_model.specs.History.{History}
+use Rattle.spec_core.specs.History.{History}
 use Rattle.bv_model.specs.declared.history.History.TheInside.{Inside}
 
 -- the lists, and the numbers one by one

@@ -1,17 +1,4 @@
--- The state machine of a volume: its state, its steps, its histories, and what these leave.
-pub mod Change
-pub mod Choice
-pub mod Core
-pub mod Deeds
-pub mod History
+-- What the calls that go over a history find in it, step by step.
 pub mod Kept
-pub mod Laws
-pub mod Log
-pub mod Order
 pub mod Rescan
-pub mod Room
-pub mod State
-pub mod Step
-pub mod Synced
-pub mod Tables
 pub mod Taking

@@ -4,13 +4,13 @@ use Rattle.std.specs.Prelude.{ℕ, Bool, false, cond, not, ◌+◌, ◌-◌, ◌
 use Rattle.std.specs.Ordering.{eq_by_cmp}
 use Rattle.spec_tree.specs.declared.Digest.{Digest}
 use Rattle.spec_tree.specs.Order.{same_digest}
-use Rattle.bv_model.specs.History.{History, setting_of, opening_map, first_state, Legal}
-use Rattle.bv_model.specs.Order.{place_cmp}
-use Rattle.bv_model.specs.State.{State, among, held, holders}
-use Rattle.bv_model.specs.Step.{state_after}
-use Rattle.bv_model.specs.declared.deed.Deed.{Deed}
-use Rattle.bv_model.specs.declared.deed.Deed.TheVariants.{Opens, Closes, Unlinks, Publishes, Purges, Empties}
-use Rattle.bv_model.specs.declared.place.Place.{Place}
+use Rattle.spec_core.specs.History.{History, setting_of, opening_map, first_state, Legal}
+use Rattle.spec_core.specs.Order.{place_cmp}
+use Rattle.spec_core.specs.State.{State, among, held, holders}
+use Rattle.spec_core.specs.Step.{state_after}
+use Rattle.spec_core.specs.declared.deed.Deed.{Deed}
+use Rattle.spec_core.specs.declared.deed.Deed.TheVariants.{Opens, Closes, Unlinks, Publishes, Purges, Empties}
+use Rattle.spec_core.specs.declared.place.Place.{Place}
 use Rattle.bv_model.specs.declared.rescan.Lengths.{Lengths}
 use Rattle.bv_model.specs.declared.rescan.Standing.{Standing}
 

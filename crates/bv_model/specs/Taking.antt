@@ -6,23 +6,23 @@ use Rattle.spec_tree.specs.Tree.{need_of}
 use Rattle.spec_tree.specs.declared.Digest.{Digest}
 use Rattle.spec_tree.specs.declared.blob.Blob.{Blob}
 use Rattle.spec_tree.specs.Order.{same_digest}
-use Rattle.bv_model.specs.Deeds.{deed_of, fails}
+use Rattle.spec_core.specs.Deeds.{deed_of, fails}
 use Rattle.bv_model.specs.Rescan.{goes_with}
-use Rattle.bv_model.specs.Room.{blob_need}
-use Rattle.bv_model.specs.State.{State, find, held}
-use Rattle.bv_model.specs.declared.act.Act.{Act}
-use Rattle.bv_model.specs.declared.act.Act.TheVariants.{Begin, Admit, Settle, Retire}
+use Rattle.spec_core.specs.Room.{blob_need}
+use Rattle.spec_core.specs.State.{State, find, held}
+use Rattle.spec_core.specs.declared.act.Act.{Act}
+use Rattle.spec_core.specs.declared.act.Act.TheVariants.{Begin, Admit, Settle, Retire}
 use Rattle.bv_model.specs.declared.adding.Adding.{Adding}
 use Rattle.bv_model.specs.declared.adding.Adding.TheVariants.{Nothing, Begins, Ends, Publishes}
-use Rattle.bv_model.specs.declared.deed.Deed.{Deed}
-use Rattle.bv_model.specs.declared.deed.Deed.TheVariants as deeds
-use Rattle.bv_model.specs.declared.reply.Reply.{Reply}
-use Rattle.bv_model.specs.declared.reply.Reply.TheVariants.{Granted, Admitted, Published}
+use Rattle.spec_core.specs.declared.deed.Deed.{Deed}
+use Rattle.spec_core.specs.declared.deed.Deed.TheVariants as deeds
+use Rattle.spec_core.specs.declared.reply.Reply.{Reply}
+use Rattle.spec_core.specs.declared.reply.Reply.TheVariants.{Granted, Admitted, Published}
 use Rattle.bv_model.specs.declared.rescan.Standing.{Standing}
 use Rattle.bv_model.specs.declared.room.Known.{Known}
 use Rattle.bv_model.specs.declared.room.Taken.{Taken}
-use Rattle.bv_model.specs.declared.setting.Setting.{Setting}
-use Rattle.bv_model.specs.declared.who.Who.{Who}
+use Rattle.spec_core.specs.declared.setting.Setting.{Setting}
+use Rattle.spec_core.specs.declared.who.Who.{Who}
 
 -- ---- what an event does to the adds
 

@@ -3,9 +3,7 @@
 ghost use Rattle.std.specs.Prelude.{◌≡◌};
 ghost use Rattle.bv_model.specs.Taking as T;
 
-use crate::act::Act;
-use crate::event::CoreEvent;
-use crate::reply::Reply;
+use spec_core::{Act, CoreEvent, Reply};
 use spec_tree::Digest;
 
 /// What an event does to the adds, by its act and reply.

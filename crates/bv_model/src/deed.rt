@@ -1,32 +1,10 @@
 //! What an event does to the slots and to the blobs.
 
 ghost use Rattle.std.specs.Prelude.{◌≡◌, ◌≤◌};
-ghost use Rattle.bv_model.specs.Deeds as C;
+ghost use Rattle.spec_core.specs.Deeds as C;
 
-use crate::act::Act;
-use crate::choosing::place_of;
-use crate::event::CoreEvent;
-use crate::place::Place;
-use crate::reply::Reply;
+use spec_core::{Act, CoreEvent, Deed, Place, Reply};
 use spec_tree::Digest;
-
-/// What an event does, by its act and reply.
-#[derive(Clone, Copy)]
-pub(crate) enum Deed {
-    Nothing,
-    /// The place holds the root.
-    Opens { place: Place, root: Digest },
-    /// The place holds nothing.
-    Closes { place: Place },
-    /// The root leaves, or is queued.
-    Unlinks { root: Digest },
-    /// The queue is purged, and the root's add is published.
-    Publishes { root: Digest },
-    /// The queue is purged.
-    Purges,
-    /// No place holds anything, and with `purges` the queue is purged.
-    Empties { purges: bool },
-}
 
 fn settled(root: Digest, reply: Reply) -> Deed
     ensures { result ≡ C.settle_deed root reply }
@@ -88,8 +66,8 @@ pub(crate) fn deed_of(event: &CoreEvent) -> Deed
 {
     match event.act {
         Act::Settle { root } => settled(root, event.reply),
-        Act::Open { slot, root } => opened(place_of(event.who, slot), root, event.reply),
-        Act::Close { slot } => closed(place_of(event.who, slot), event.reply),
+        Act::Open { slot, root } => opened(event.who.place(slot), root, event.reply),
+        Act::Close { slot } => closed(event.who.place(slot), event.reply),
         Act::Unlink { root } => unlinked(root, event.reply),
         Act::Sync => synced(event.reply),
         Act::Unmount => unmounted(event.reply),

@@ -1,10 +1,9 @@
 //! The history of a mount.
 
 ghost use Rattle.std.specs.Prelude.{◌≡◌, ◌-◌, ◌+◌, ◌≤◌, ◌<◌, ◌^◌, ◌++◌, ◌∷◌, [], OnOk, OnErr, vec_len, vec_capacity};
-ghost use Rattle.bv_model.specs.History.{setting_of, with_event};
+ghost use Rattle.spec_core.specs.History.{setting_of, with_event};
 
-use crate::event::CoreEvent;
-use crate::setting::Setting;
+use spec_core::{CoreEvent, Setting};
 use spec_tree::Digest;
 use std::alloc::{AllocError, Global};
 use std::marker::Model;
@@ -21,7 +20,7 @@ pub struct History {
 }
 
 impl Model for History {
-    ghost use Rattle.bv_model.specs.History.{History};
+    ghost use Rattle.spec_core.specs.History.{History};
 
     ghost Value = { History };
 

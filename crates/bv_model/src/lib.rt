@@ -1,48 +1,19 @@
-//! The state machine of a volume: the history that a mount leaves, and the rules that it obeys.
+//! The history of a mount, and the calls that go over it: what was synced and what was logged by
+//! when, and the room that is left.
+//!
+//! The types of events and the rules that they obey are `spec_core`'s.
 #![tactic(auto)]
 
-pub mod act;
 mod adding;
-mod changing;
-pub mod choice;
-pub mod choosing;
 mod deed;
-pub mod event;
 pub mod history;
-pub mod laws;
-mod lookups;
-pub mod machine;
-pub mod map_change;
 mod need;
-pub mod place;
-mod purging;
-pub mod reply;
 pub mod rescan;
 pub mod room;
-pub mod setting;
-pub mod step;
-pub mod who;
 
-pub use act::Act;
-pub use choice::Choice;
-pub use choosing::is_chosen;
-pub use event::CoreEvent;
 pub use history::History;
-pub use machine::Machine;
-pub use map_change::MapChange;
-pub use need::worst_nodes;
-pub use place::Place;
-pub use reply::Reply;
+pub use need::{need_of, worst_nodes};
 pub use rescan::{logged_by, synced_by};
 pub use room::room_of;
-pub use setting::Setting;
+pub use spec_core::{Act, Choice, CoreEvent, MapChange, Place, Reply, Setting, Who};
 pub use spec_tree::Blob;
-pub use step::step_of;
-pub use who::Who;
-
-#[cfg(test)]
-mod ending_tests;
-#[cfg(test)]
-mod history_tests;
-#[cfg(test)]
-mod tests;

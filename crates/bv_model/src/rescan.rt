@@ -2,16 +2,14 @@
 //! again.
 
 ghost use Rattle.std.specs.Prelude.{◌≡◌, ℕ, ◌≤◌, ◌<◌, ◌+◌, ◌^◌, ◌-◌, ◌==◌, ◌&&◌, cond, nat_le, length};
-ghost use Rattle.bv_model.specs.History.{Legal};
+ghost use Rattle.spec_core.specs.History.{Legal};
 ghost use Rattle.bv_model.specs.Rescan as C;
-ghost use Rattle.bv_model.specs.State as S;
-ghost use Rattle.bv_model.specs.Synced as Y;
+ghost use Rattle.spec_core.specs.State as S;
+ghost use Rattle.spec_core.specs.Synced as Y;
 
-use crate::deed::{Deed, deed_of, fails, published_by};
-use crate::event::CoreEvent;
+use crate::deed::{deed_of, fails, published_by};
 use crate::history::History;
-use crate::place::Place;
-use crate::reply::Reply;
+use spec_core::{CoreEvent, Deed, Place, Reply};
 use spec_tree::Digest;
 
 /// How a root stands: how many slots hold it, and whether it leaves with the last of them.

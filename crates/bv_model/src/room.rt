@@ -3,18 +3,18 @@
 ghost use Rattle.std.specs.Prelude.{◌≡◌, ℕ, ◌≤◌, ◌<◌, ◌+◌, ◌*◌, ◌-◌, ◌^◌, ◌==◌, cond, length};
 ghost use Rattle.std.specs.List.{sum_by};
 ghost use Rattle.std.specs.Map.{values_of};
-ghost use Rattle.bv_model.specs.History.{Legal, setting_of, opening_map, room};
+ghost use Rattle.spec_core.specs.History.{Legal, setting_of, opening_map, room};
 ghost use Rattle.bv_model.specs.Rescan as C;
-ghost use Rattle.bv_model.specs.Room as R;
-ghost use Rattle.bv_model.specs.State as S;
+ghost use Rattle.spec_core.specs.Room as R;
+ghost use Rattle.spec_core.specs.State as S;
 ghost use Rattle.bv_model.specs.Taking as T;
 
 use crate::adding::{Adding, adding_of};
-use crate::deed::{Deed, deed_of, fails};
-use crate::event::CoreEvent;
+use crate::deed::{deed_of, fails};
 use crate::history::History;
-use crate::need::blocks;
+use crate::need::need_of;
 use crate::rescan::{Standing, held_after, standing_for};
+use spec_core::{CoreEvent, Deed};
 use spec_tree::{Blob, Digest};
 
 /// What is known of a root: the blob of its last add, or that of the opening before any add.
@@ -69,7 +69,7 @@ fn opening_blocks(h: &History) -> u128
     let mut all = 0;
     for i in 0..opening.len() {
         let (_, size, version) = opening[i];
-        all += u128::from(blocks(version, size));
+        all += u128::from(need_of(version, size));
     }
     all
 }
@@ -126,7 +126,7 @@ fn add_need(h: &History, count: usize, root: Digest) -> u64
 {
     let known = known_after(h, count, root);
     if known.adding {
-        blocks(h.setting().version, known.blob.size)
+        need_of(h.setting().version, known.blob.size)
     } else {
         0
     }
@@ -138,7 +138,7 @@ fn blob_need(h: &History, count: usize, root: Digest) -> u64
     ensures { C.After h.now count (λ s. T.NeedsAt s root result) }
 {
     let known = known_after(h, count, root);
-    blocks(known.blob.version, known.blob.size)
+    need_of(known.blob.version, known.blob.size)
 }
 
 /// The blocks of the blob that a deed unlinks, or closes a place of.
@@ -164,7 +164,7 @@ fn event_need(h: &History, count: usize, event: &CoreEvent) -> u64
         T.NeedsOf (setting_of h.now) s event.now.who event.now.act event.now.reply result) }
 {
     match adding_of(event) {
-        Adding::Begins { size, .. } => blocks(h.setting().version, size),
+        Adding::Begins { size, .. } => need_of(h.setting().version, size),
         Adding::Ends { root } => add_need(h, count, root),
         Adding::Publishes { .. } | Adding::Nothing => deed_need(h, count, deed_of(event)),
     }

@@ -10,16 +10,16 @@ use Rattle.spec_disk.specs.declared.event.Event.TheVariants as device
 use Rattle.spec_disk.specs.Disk.{Blocks}
 use Rattle.spec_disk.specs.Images.{IsImage}
 use Rattle.spec_image.specs.Chance.{NoChance}
-use Rattle.bv_model.specs.declared.event.CoreEvent.{CoreEvent}
-use Rattle.bv_model.specs.declared.map_change.MapChange.{MapChange}
-use Rattle.bv_model.specs.declared.setting.Setting.{Setting}
-use Rattle.bv_model.specs.State.{State}
-use Rattle.bv_model.specs.Step.{after, state_after}
-use Rattle.bv_model.specs.History.{History, setting_of, opening_map, first_state, last_state, log_of, with_event}
-use Rattle.bv_model.specs.Log.{changed}
-use Rattle.bv_model.specs.Synced.{lengths_from, log_lengths, lengths_where, first_or, last_or, tells_durable, synced_by, logged_by}
-use Rattle.bv_model.proofs.Histories.{state_after-push}
-use Rattle.bv_model.proofs.Logs.{moves}
+use Rattle.spec_core.specs.declared.event.CoreEvent.{CoreEvent}
+use Rattle.spec_core.specs.declared.map_change.MapChange.{MapChange}
+use Rattle.spec_core.specs.declared.setting.Setting.{Setting}
+use Rattle.spec_core.specs.State.{State}
+use Rattle.spec_core.specs.Step.{after, state_after}
+use Rattle.spec_core.specs.History.{History, setting_of, opening_map, first_state, last_state, log_of, with_event}
+use Rattle.spec_core.specs.Log.{changed}
+use Rattle.spec_core.specs.Synced.{lengths_from, log_lengths, lengths_where, first_or, last_or, tells_durable, synced_by, logged_by}
+use Rattle.spec_core.proofs.Histories.{state_after-push}
+use Rattle.spec_core.proofs.Logs.{moves}
 use Rattle.spec_crash.specs.Timing.{TimesOne}
 use Rattle.spec_crash.specs.Crash.{IsLogLength, map_after, HoldsWhole, HoldsPrefix, CrashPrefix, StopsWithin}
 use Rattle.spec_crash.proofs.TimingLemmas.{IsTimed-push}

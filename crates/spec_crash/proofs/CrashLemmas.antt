@@ -4,11 +4,11 @@ use Rattle.std.proofs.lemmas.List.{take_all}
 use Rattle.spec_disk.specs.Disk.{Blocks}
 use Rattle.spec_disk.specs.Images.{IsImage}
 use Rattle.spec_disk.proofs.ImageLemmas.{image-settled}
-use Rattle.bv_model.specs.History.{History, setting_of, opening_map, first_state, log_of}
-use Rattle.bv_model.specs.declared.event.CoreEvent.{CoreEvent}
-use Rattle.bv_model.specs.Log.{changed}
-use Rattle.bv_model.specs.Synced.{synced_by, last_or, lengths_where, lengths_from, tells_durable}
-use Rattle.bv_model.specs.declared.map_change.MapChange.{MapChange}
+use Rattle.spec_core.specs.History.{History, setting_of, opening_map, first_state, log_of}
+use Rattle.spec_core.specs.declared.event.CoreEvent.{CoreEvent}
+use Rattle.spec_core.specs.Log.{changed}
+use Rattle.spec_core.specs.Synced.{synced_by, last_or, lengths_where, lengths_from, tells_durable}
+use Rattle.spec_core.specs.declared.map_change.MapChange.{MapChange}
 use Rattle.spec_crash.proofs.TimingLemmas.{IsTimed-none}
 use Rattle.spec_crash.specs.Crash.{map_after, HoldsWhole, HoldsPrefix, CrashPrefix}
 

@@ -8,11 +8,11 @@ use Rattle.spec_disk.specs.declared.event.Event.{Event}
 use Rattle.spec_disk.specs.declared.event.Event.TheVariants as device
 use Rattle.spec_tree.specs.Order.{digest_cmp}
 use Rattle.spec_tree.specs.declared.Digest.{Digest}
-use Rattle.bv_model.specs.History.{History, Legal}
-use Rattle.bv_model.specs.Synced.{synced_by, logged_by, tells_durable}
-use Rattle.bv_model.specs.declared.act.Act.TheVariants as acts
-use Rattle.bv_model.specs.declared.event.CoreEvent.{CoreEvent}
-use Rattle.bv_model.specs.declared.reply.Reply.TheVariants as replies
+use Rattle.spec_core.specs.History.{History, Legal}
+use Rattle.spec_core.specs.Synced.{synced_by, logged_by, tells_durable}
+use Rattle.spec_core.specs.declared.act.Act.TheVariants as acts
+use Rattle.spec_core.specs.declared.event.CoreEvent.{CoreEvent}
+use Rattle.spec_core.specs.declared.reply.Reply.TheVariants as replies
 use Rattle.spec_crash.specs.Timing.{event_at, IsOkWrite, IsOkSync, IsWritten, IsTimed}
 
 -- recovery's one call

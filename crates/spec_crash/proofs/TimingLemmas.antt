@@ -6,9 +6,9 @@ use Rattle.std.proofs.lemmas.List.{length_push, length-append}
 use Rattle.std.proofs.lemmas.List.Elements.{All-push, All-nil}
 use Rattle.spec_disk.specs.declared.event.Event.{Event}
 use Rattle.spec_disk.specs.declared.event.Event.TheVariants as device
-use Rattle.bv_model.specs.declared.event.CoreEvent.{CoreEvent}
-use Rattle.bv_model.specs.History.{History, FromEachToNext, with_event}
-use Rattle.bv_model.specs.Synced.{tells_durable}
+use Rattle.spec_core.specs.declared.event.CoreEvent.{CoreEvent}
+use Rattle.spec_core.specs.History.{History, FromEachToNext, with_event}
+use Rattle.spec_core.specs.Synced.{tells_durable}
 use Rattle.spec_crash.specs.Timing.{event_at, IsOkWrite, IsOkSync, LastHas, MayCall, IsWritten, IsTimed, TimesOne}
 
 -- One event more of a history

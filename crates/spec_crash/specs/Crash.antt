@@ -10,9 +10,9 @@ use Rattle.spec_disk.specs.Disk.{Blocks}
 use Rattle.spec_disk.specs.Images.{IsImage}
 use Rattle.spec_image.specs.Volume.{blobs, IsWhole}
 use Rattle.spec_image.specs.Chance.{NoChance}
-use Rattle.bv_model.specs.History.{History, opening_map, log_of}
-use Rattle.bv_model.specs.Log.{changed}
-use Rattle.bv_model.specs.Synced.{log_lengths, synced_by, logged_by}
+use Rattle.spec_core.specs.History.{History, opening_map, log_of}
+use Rattle.spec_core.specs.Log.{changed}
+use Rattle.spec_core.specs.Synced.{log_lengths, synced_by, logged_by}
 use Rattle.spec_crash.specs.Timing.{IsTimed}
 
 -- 0, or the log's length after some event

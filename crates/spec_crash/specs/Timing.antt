@@ -5,12 +5,12 @@
 use Rattle.std.specs.Prelude.{◌≡◌, ◌<◌, ◌⊎◌, ◌++◌, ℕ, zero, suc, ◌+◌, List, [], ◌∷◌, length, true, All, Option, None, IsSomeAnd, IsTrue, slice_get}
 use Rattle.spec_disk.specs.declared.event.Event.{Event}
 use Rattle.spec_disk.specs.declared.event.Event.TheVariants as device
-use Rattle.bv_model.specs.declared.act.Act.{Act}
-use Rattle.bv_model.specs.declared.act.Act.TheVariants as acts
-use Rattle.bv_model.specs.declared.reply.Reply.TheVariants as replies
-use Rattle.bv_model.specs.declared.event.CoreEvent.{CoreEvent}
-use Rattle.bv_model.specs.History.{History, FromEachToNext}
-use Rattle.bv_model.specs.Synced.{tells_durable}
+use Rattle.spec_core.specs.declared.act.Act.{Act}
+use Rattle.spec_core.specs.declared.act.Act.TheVariants as acts
+use Rattle.spec_core.specs.declared.reply.Reply.TheVariants as replies
+use Rattle.spec_core.specs.declared.event.CoreEvent.{CoreEvent}
+use Rattle.spec_core.specs.History.{History, FromEachToNext}
+use Rattle.spec_core.specs.Synced.{tells_durable}
 
 -- the device's event at a place, or none
 abbrev pub event_at : List Event → ℕ → Option Event

@@ -1,7 +1,7 @@
 use Rattle.std.proofs.Common.{◌∙◌, ap, sym, refl, ℕ, arith}
 use Rattle.bv_model.proofs.Rescans.{held_more}
 use Rattle.bv_model.specs.Rescan.{state_at}
-use Rattle.bv_model.specs.State.{held}
+use Rattle.spec_core.specs.State.{held}
 use Rattle.bv_model.proofs.rescan.held_after.Goals as goal
 
 pub loop-i-init : goal.loop-i-init

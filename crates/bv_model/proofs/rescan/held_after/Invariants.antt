@@ -1,7 +1,7 @@
 use Rattle.std.proofs.Common.{◌≡◌, ℕ}
-use Rattle.bv_model.specs.History.{Legal}
+use Rattle.spec_core.specs.History.{Legal}
 use Rattle.bv_model.specs.Rescan.{state_at}
-use Rattle.bv_model.specs.State as S
+use Rattle.spec_core.specs.State as S
 use Rattle.bv_model.proofs.rescan.held_after.Given as goal
 
 abbrev pub invariant-loop-i : goal.invariant-loop-i

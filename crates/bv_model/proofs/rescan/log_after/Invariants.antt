@@ -1,6 +1,6 @@
 use Rattle.std.proofs.Common.{◌≡◌, ◌≤◌, ◌+◌, ℕ}
 use Rattle.bv_model.proofs.Lengths.{Follows}
-use Rattle.bv_model.specs.History.{Legal}
+use Rattle.spec_core.specs.History.{Legal}
 use Rattle.bv_model.specs.Rescan.{state_at, in_all}
 use Rattle.bv_model.proofs.rescan.log_after.Given as goal
 

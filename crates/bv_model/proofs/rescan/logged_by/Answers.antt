@@ -1,7 +1,7 @@
 use Rattle.std.proofs.Common.{◌∙◌, ap, sym, ℕ, true, false, length}
 use Rattle.bv_model.proofs.Durable.{logged_all, logged_more, logged_end}
 use Rattle.bv_model.proofs.Rescans.{state_at_end}
-use Rattle.bv_model.specs.State.{State}
+use Rattle.spec_core.specs.State.{State}
 use Rattle.bv_model.proofs.rescan.logged_by.Goals as goal
 
 pub loop-i-init : goal.loop-i-init

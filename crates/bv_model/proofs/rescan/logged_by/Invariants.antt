@@ -1,6 +1,6 @@
 use Rattle.std.proofs.Common.{◌≡◌, ℕ}
 use Rattle.bv_model.proofs.Durable.{logged_from}
-use Rattle.bv_model.specs.Synced.{logged_by}
+use Rattle.spec_core.specs.Synced.{logged_by}
 use Rattle.bv_model.proofs.rescan.logged_by.Given as goal
 
 abbrev pub invariant-loop-i : goal.invariant-loop-i

@@ -1,5 +1,5 @@
 use Rattle.std.proofs.Common.{◌≡◌, ◌≤◌, ℕ}
-use Rattle.bv_model.specs.History.{Legal}
+use Rattle.spec_core.specs.History.{Legal}
 use Rattle.bv_model.specs.Rescan.{state_at, standing_in}
 use Rattle.bv_model.proofs.rescan.standing_after.Given as goal
 

@@ -1,7 +1,7 @@
 use Rattle.std.proofs.Common.{◌≡◌, ◌≤◌, ℕ, length}
 use Rattle.bv_model.proofs.Durable.{synced_from}
 use Rattle.bv_model.specs.Rescan.{state_at}
-use Rattle.bv_model.specs.Synced.{synced_by}
+use Rattle.spec_core.specs.Synced.{synced_by}
 use Rattle.bv_model.proofs.rescan.synced_by.Given as goal
 
 abbrev pub invariant-loop-i : goal.invariant-loop-i

@@ -1,5 +1,5 @@
 use Rattle.std.proofs.Common.{ℕ}
-use Rattle.bv_model.specs.History.{Legal, setting_of}
+use Rattle.spec_core.specs.History.{Legal, setting_of}
 use Rattle.bv_model.specs.Rescan.{state_at}
 use Rattle.bv_model.specs.Taking.{Knows}
 use Rattle.bv_model.proofs.room.known_after.Given as goal

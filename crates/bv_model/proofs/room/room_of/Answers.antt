@@ -1,7 +1,7 @@
 use Rattle.std.proofs.Common.{◌≡◌, ◌∙◌, ◌-◌, ap, ℕ, length, arith}
 use Rattle.bv_model.proofs.Rescans.{state_at_end}
 use Rattle.bv_model.proofs.Rooms.{taken_more, room_taken}
-use Rattle.bv_model.specs.declared.setting.Setting.{Setting}
+use Rattle.spec_core.specs.declared.setting.Setting.{Setting}
 use Rattle.bv_model.proofs.room.room_of.Goals as goal
 use Rattle.bv_model.proofs.room.room_of.Goals.{After-left_of}
 

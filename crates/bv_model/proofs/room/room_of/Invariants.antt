@@ -1,6 +1,6 @@
 use Rattle.std.proofs.Common.{◌≤◌, ◌+◌, ◌*◌, ◌-◌, ◌^◌, ℕ}
 use Rattle.bv_model.proofs.Rooms.{TakenOf}
-use Rattle.bv_model.specs.History.{Legal, setting_of}
+use Rattle.spec_core.specs.History.{Legal, setting_of}
 use Rattle.bv_model.specs.Rescan.{state_at}
 use Rattle.bv_model.specs.Taking.{in_all}
 use Rattle.bv_model.proofs.room.room_of.Given as goal

@@ -1,5 +1,0 @@
-use Rattle.bv_model.proofs.Numbers.{numbers_are_apart}
-use Rattle.bv_model.proofs.laws.numbers_of_entries_are_apart.Goals as goal
-
-pub returns : goal.returns
-returns c = numbers_are_apart

@@ -1,5 +1,0 @@
-use Rattle.bv_model.proofs.Replies.{one_reply}
-use Rattle.bv_model.proofs.laws.only_admit_and_the_device_are_free.Goals as goal
-
-pub returns : goal.returns
-returns c = one_reply

@@ -1,5 +1,0 @@
-use Rattle.bv_model.proofs.Replies.{some_reply_fits}
-use Rattle.bv_model.proofs.laws.some_reply_is_a_step.Goals as goal
-
-pub returns : goal.returns
-returns c = some_reply_fits

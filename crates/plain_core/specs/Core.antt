@@ -1,0 +1,25 @@
+-- The core as a value.
+use Rattle.std.specs.Prelude.{◌≡◌, ◌+◌, [], ◌∷◌, Bool, true, false}
+use Rattle.spec_tree.specs.declared.Digest.{Digest}
+use Rattle.spec_core.specs.Log.{flushed}
+use Rattle.spec_core.specs.State.{State}
+use Rattle.spec_core.specs.Step.{Fits, Step}
+use Rattle.spec_tree.specs.declared.blob.Blob.{Blob}
+use Rattle.spec_core.specs.declared.event.CoreEvent.{CoreEvent}
+use Rattle.spec_core.specs.declared.map_change.MapChange.TheVariants.{Publish}
+use Rattle.spec_core.specs.declared.setting.Setting.{Setting}
+
+-- what a mount never changes, and what its rules know of it between two events
+pub record Core : Type 0 where
+  pub setting : Setting
+  pub state : State
+
+-- with true, the event is a Step from the old to the new; with false it fits no row, and nothing
+-- changed
+abbrev pub StepsOrStays : Core → Core → CoreEvent → Bool → Type 0
+StepsOrStays old new e true = (new.setting ≡ old.setting) × Step old.setting old.state e new.state
+StepsOrStays old new e false = (new ≡ old) × (¬ Fits old.setting old.state e)
+
+-- the queue is purged, and a blob is published with the next entry
+abbrev pub with_blob : State → Digest → Blob → State
+with_blob s r blob = record (flushed s (Publish r blob ∷ [])) { next = s.next + 1 }

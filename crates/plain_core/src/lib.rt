@@ -1,0 +1,21 @@
+//! The core of a volume as a plain program: slow, in memory, and each step by the tables.
+#![tactic(auto)]
+
+mod changing;
+pub mod choosing;
+mod less;
+mod lookups;
+pub mod machine;
+mod purging;
+pub mod step;
+
+pub use choosing::is_chosen;
+pub use machine::Machine;
+pub use step::step_of;
+
+#[cfg(test)]
+mod ending_tests;
+#[cfg(test)]
+mod history_tests;
+#[cfg(test)]
+mod tests;

@@ -1,0 +1,11 @@
+pub mod Counting
+pub mod Deeds
+pub mod EntryLemmas
+pub mod Histories
+pub mod Holding
+pub mod Logs
+pub mod Numbers
+pub mod Once
+pub mod Replies
+pub mod Slots
+pub mod Timing
