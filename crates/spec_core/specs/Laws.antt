@@ -1,5 +1,5 @@
 -- What the rules mean together: each statement is the contract of a function of `laws`.
-use Rattle.std.specs.Prelude.{◌≡◌, ℕ, true, false, ◌-◌, ◌<◌, ◌≤◌, ◌⊎◌, cond, ◌++◌, length, Some, None, is_some, IsTrue}
+use Rattle.std.specs.Prelude.{◌≡◌, ℕ, true, false, ◌-◌, ◌<◌, ◌≤◌, ◌⊎◌, cond, ◌++◌, length, Some, None, is_some}
 use Rattle.std.specs.List.{count_by}
 use Rattle.spec_tree.specs.declared.Digest.{Digest}
 use Rattle.spec_tree.specs.Order.{same_digest}
@@ -8,7 +8,7 @@ use Rattle.spec_core.specs.History.{History, opening_map, last_state, room, Lega
 use Rattle.spec_core.specs.Log.{changed, queued}
 use Rattle.spec_core.specs.State.{State, find, held, among, is_held, is_unlinked}
 use Rattle.spec_core.specs.Step.{Chosen, Fits, Step, after}
-use Rattle.spec_core.specs.Synced.{log_lengths, synced_by, logged_by, tells_durable, fault_of}
+use Rattle.spec_core.specs.Synced.{log_lengths, synced_by, logged_by, SyncsInCalls, fault_of}
 use Rattle.spec_core.specs.declared.act.Act.{Act}
 use Rattle.spec_core.specs.declared.act.Act.TheVariants.{Admit, Settle, Close, Unlink, Unmount}
 use Rattle.spec_core.specs.declared.event.CoreEvent.{CoreEvent}
@@ -111,11 +111,6 @@ SlotsStay =
     (g : Setting) (s : State) (e : CoreEvent) (p : Place) (r : Digest)
     → Fits g s e → held s.slots p ≡ Some r → ¬ Empties p e.who e.act
     → held (after g s e).slots p ≡ Some r
-
--- each event that makes the log durable has more calls than the event before it
-abbrev pub SyncsInCalls : History → Type 0
-SyncsInCalls h =
-    FromEachToNext (λ old new. IsTrue (tells_durable new.reply) → old.calls < new.calls) h.events
 
 -- each event in which the log grows has more calls than the event before it
 abbrev pub LogsInCalls : History → Type 0

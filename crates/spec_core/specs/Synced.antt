@@ -1,7 +1,7 @@
 -- Which changes are durable, and which may be, after so many calls of the device; and where faults
 -- come from (this project's profile).
-use Rattle.std.specs.Prelude.{◌≡◌, ℕ, Bool, true, false, ◌-◌, ◌^◌, ◌<◌, ◌≤◌, ◌&&◌, ◌⊎◌, List, [], ◌∷◌, ◌++◌, length, map, filter, nat_le}
-use Rattle.spec_core.specs.History.{History, setting_of, opening_map, first_state, log_of}
+use Rattle.std.specs.Prelude.{◌≡◌, ℕ, Bool, true, false, ◌-◌, ◌^◌, ◌<◌, ◌≤◌, ◌&&◌, ◌⊎◌, List, [], ◌∷◌, ◌++◌, length, map, filter, nat_le, IsTrue}
+use Rattle.spec_core.specs.History.{History, setting_of, opening_map, first_state, log_of, FromEachToNext}
 use Rattle.spec_core.specs.State.{State}
 use Rattle.spec_core.specs.Step.{after}
 use Rattle.spec_core.specs.declared.event.CoreEvent.{CoreEvent}
@@ -37,6 +37,11 @@ abbrev pub tells_durable : Reply → Bool
 tells_durable Synced = true
 tells_durable Unmounted = true
 tells_durable _ = false
+
+-- each event that makes the log durable has more calls than the event before it
+abbrev pub SyncsInCalls : History → Type 0
+SyncsInCalls h =
+    FromEachToNext (λ old new. IsTrue (tells_durable new.reply) → old.calls < new.calls) h.events
 
 -- SyncedBy: the log's length after the last event with reply synced or unmounted and at most so
 -- many calls, else 0

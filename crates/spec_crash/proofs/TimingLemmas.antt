@@ -70,6 +70,11 @@ module _ (events more : List Event) (h : History) (e : CoreEvent) (timed : IsTim
       (event_at-last IsOkSync (events ++ q) (device.Sync true) e.calls
       (omega (arith, one.calls, length-append events q, length_push q (device.Sync true), ap (λ (m : List Event). length m) is)) refl)
 
+  rises_by_sync : (l : CoreEvent) → l.calls ≡ length events → IsTrue (tells_durable e.reply) → l.calls < e.calls
+  rises_by_sync l at durable =
+      let (q, is) = one.synced durable in
+      omega (arith, at, one.calls, length_push q (device.Sync true), ap (λ (m : List Event). length m) is)
+
   pub IsTimed-push : IsTimed (events ++ more) (with_event h e)
   IsTimed-push = record {
     rises = FromEachToNext-push (λ old new. old.calls < new.calls → MayCall new.act) (λ l. l.calls ≡ length events) h.events e timed.rises timed.ends rises;
@@ -78,8 +83,11 @@ module _ (events more : List Event) (h : History) (e : CoreEvent) (timed : IsTim
       written = All-push (λ x. IsWritten x → IsSomeAnd (event_at (events ++ more) x.calls) IsOkWrite) h.events e
           (λ k d below is. event_at-more IsOkWrite events more _ (timed.puts.written k d below is)) is_write;
     };
-    syncs = All-push (λ x. IsTrue (tells_durable x.reply) → IsSomeAnd (event_at (events ++ more) x.calls) IsOkSync) h.events e
-        (λ k d below is. event_at-more IsOkSync events more _ (timed.syncs k d below is)) is_sync;
+    syncs = record {
+      own = FromEachToNext-push (λ old new. IsTrue (tells_durable new.reply) → old.calls < new.calls) (λ l. l.calls ≡ length events) h.events e timed.syncs.own timed.ends rises_by_sync;
+      synced = All-push (λ x. IsTrue (tells_durable x.reply) → IsSomeAnd (event_at (events ++ more) x.calls) IsOkSync) h.events e
+          (λ k d below is. event_at-more IsOkSync events more _ (timed.syncs.synced k d below is)) is_sync;
+    };
     ends = LastHas-push (λ x. x.calls ≡ length (events ++ more)) h.events e (one.calls ∙ sym (length-append events more));
   }
 
@@ -92,6 +100,9 @@ IsTimed-none events h none = record {
     one = subst (λ es. FromEachToNext (λ old new. IsWritten new → new.calls ≡ old.calls + 1) es) (sym none) tt;
     written = let P : CoreEvent → Type 0 = λ x. IsWritten x → IsSomeAnd (event_at events x.calls) IsOkWrite in subst (λ es. All P es) (sym none) (All-nil P);
   };
-  syncs = let P : CoreEvent → Type 0 = λ x. IsTrue (tells_durable x.reply) → IsSomeAnd (event_at events x.calls) IsOkSync in subst (λ es. All P es) (sym none) (All-nil P);
+  syncs = record {
+    own = subst (λ es. FromEachToNext (λ old new. IsTrue (tells_durable new.reply) → old.calls < new.calls) es) (sym none) tt;
+    synced = let P : CoreEvent → Type 0 = λ x. IsTrue (tells_durable x.reply) → IsSomeAnd (event_at events x.calls) IsOkSync in subst (λ es. All P es) (sym none) (All-nil P);
+  };
   ends = subst (λ es. LastHas (λ x. x.calls ≡ length events) es) (sym none) tt;
 }

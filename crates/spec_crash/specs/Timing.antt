@@ -10,7 +10,7 @@ use Rattle.spec_core.specs.declared.act.Act.TheVariants as acts
 use Rattle.spec_core.specs.declared.reply.Reply.TheVariants as replies
 use Rattle.spec_core.specs.declared.event.CoreEvent.{CoreEvent}
 use Rattle.spec_core.specs.History.{History, FromEachToNext}
-use Rattle.spec_core.specs.Synced.{tells_durable}
+use Rattle.spec_core.specs.Synced.{tells_durable, SyncsInCalls}
 
 -- the device's event at a place, or none
 abbrev pub event_at : List Event → ℕ → Option Event
@@ -59,11 +59,13 @@ pub record PutsWrite (events : List Event) (h : History) : Type 0 where
   pub one : FromEachToNext (λ old new. IsWritten new → new.calls ≡ old.calls + 1) h.events
   pub written : All (λ e. IsWritten e → IsSomeAnd (event_at events e.calls) IsOkWrite) h.events
 
--- After a reply `synced` or `unmounted`, calls is the place of an Ok sync.
-abbrev pub RepliesSync : List Event → History → Type 0
-RepliesSync events h =
-    All (λ e. IsTrue (tells_durable e.reply) → IsSomeAnd (event_at events e.calls) IsOkSync)
-    h.events
+-- An event that replied `synced` or `unmounted` raises calls, and calls is then the place of an Ok
+-- sync: it ends with a sync of its own.
+pub record RepliesSync (events : List Event) (h : History) : Type 0 where
+  pub own : SyncsInCalls h
+  pub synced : All
+      (λ e. IsTrue (tells_durable e.reply) → IsSomeAnd (event_at events e.calls) IsOkSync)
+      h.events
 
 -- After the last event, calls is the number of the device's events.
 abbrev pub EndsAtLast : List Event → History → Type 0

