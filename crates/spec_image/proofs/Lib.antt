@@ -16,11 +16,3 @@ pub mod MapLemmas
 pub mod CountLemmas
 pub mod BitLemmas
 pub mod SampleTreeLemmas
-pub mod PlainReplayLemmas
-pub mod PlainNeedLemmas
-pub mod PlainAfterLemmas
-pub mod PlainTestLemmas
-pub mod PlainListLemmas
-pub mod PlainChainLemmas
-pub mod PlainMetadataLemmas
-pub mod PlainBlobLemmas

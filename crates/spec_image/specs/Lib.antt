@@ -15,9 +15,6 @@ pub mod Stored
 pub mod Volume
 pub mod Chance
 pub mod Torn
-pub mod Accepted
-pub mod Plain
-pub mod PlainChain
 pub mod SampleJournals
 pub mod SampleNodes
 pub mod SampleTrees

@@ -1,0 +1,8 @@
+mod PlainReplayLemmas
+mod PlainNeedLemmas
+mod PlainAfterLemmas
+mod PlainTestLemmas
+mod PlainListLemmas
+mod PlainChainLemmas
+mod PlainMetadataLemmas
+mod PlainBlobLemmas

@@ -1,0 +1,4 @@
+-- What the plain programs of an image find, as values of the definitions.
+pub mod Accepted
+pub mod Plain
+pub mod PlainChain

@@ -1,0 +1,54 @@
+-- What the plain programs find, as values of the definitions.
+use Rattle.std.specs.Prelude.{◌≡◌, ◌≤◌, ℕ, List, length, map, if◌then◌else◌, Option, Some, None}
+use Rattle.std.specs.List.{flat_map}
+use Rattle.spec_record.specs.declared.extent.Extent.{Extent}
+use Rattle.spec_record.specs.Geometry.{IsGeometry, meta_blocks, total_blocks}
+use Rattle.spec_image.specs.Chain.{BlobRecord}
+use Rattle.spec_image.specs.Metadata.{Metadata, metadata_in}
+use Rattle.spec_image.specs.Volume.{metadata_of}
+use Rattle.spec_image.specs.WellFormed.{records_of, is_well_formed}
+use Rattle.plain_image.specs.declared.plain_blobs.Volume.{Volume}
+use Rattle.plain_image.specs.declared.plain_chain.ChainedBlob.{ChainedBlob}
+use Rattle.plain_image.specs.declared.plain_metadata.MetadataBlocks.{MetadataBlocks}
+
+-- what these metadata blocks say
+abbrev pub metadata_read : MetadataBlocks → Metadata
+metadata_read m = metadata_in m.superblock m.blocks.items
+
+-- the volume is within its limits, and all its metadata blocks are here
+pub record HasBlocks (m : MetadataBlocks) : Type 0 where
+  pub limits : IsGeometry m.superblock.geometry
+  pub count : length m.blocks.items ≡ meta_blocks m.superblock.geometry
+
+-- these blocks of an image are the wanted metadata where that is well formed, else there is none
+pub record IsReadFrom (image : List (List ℕ)) (wanted : Option Metadata) (m : MetadataBlocks)
+    : Type 0 where
+  pub blocks : HasBlocks m
+  pub room : total_blocks m.superblock.geometry ≤ length image
+  pub value : wanted ≡ (if is_well_formed (metadata_read m) then Some (metadata_read m) else None)
+
+-- the blob that was read
+abbrev pub blob_record : ChainedBlob → BlobRecord
+blob_record b = record {
+  root = b.root;
+  size = b.size;
+  version = b.version;
+  extents = b.extents.items;
+  nodes = b.nodes.items;
+}
+
+-- all extents of the blobs whose chains read, and all their nodes
+abbrev pub extents_read : MetadataBlocks → List Extent
+extents_read m = flat_map (λ b. b.extents) (records_of (metadata_read m))
+
+abbrev pub nodes_read_in : MetadataBlocks → List ℕ
+nodes_read_in m = flat_map (λ b. b.nodes) (records_of (metadata_read m))
+
+-- this image has metadata, whose blobs and geometry are these
+pub record IsVolume (image : List (List ℕ)) (v : Volume) : Type 0 where
+  pub limits : IsGeometry v.geometry
+  pub room : total_blocks v.geometry ≤ length image
+  pub metadata : Metadata
+  pub found : metadata_of image ≡ Some metadata
+  pub geometry : metadata.super.geometry ≡ v.geometry
+  pub records : map blob_record v.records.items ≡ records_of metadata
