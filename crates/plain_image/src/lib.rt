@@ -10,7 +10,6 @@ mod plain_metadata;
 mod plain_need;
 mod plain_records;
 mod plain_replay;
-mod plain_super;
 mod plain_well_formed;
 
 pub use plain_blobs::{blobs_from, bytes_from};

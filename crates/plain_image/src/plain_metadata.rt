@@ -6,6 +6,8 @@ ghost use Rattle.spec_disk.specs.Disk.{block};
 ghost use Rattle.spec_record.specs.Geometry.{IsGeometry, total_blocks, ring_slots, ring_in};
 ghost use Rattle.spec_record.specs.Geometry.{block_at};
 ghost use Rattle.spec_record.specs.Info.{info_of, IsInfo};
+ghost use Rattle.spec_record.specs.Laws.{SpellsSuper};
+ghost use Rattle.spec_record.specs.Superblock.{super_of};
 ghost use Rattle.spec_image.specs.After.{after};
 ghost use Rattle.spec_image.specs.Journal.{journal_of};
 ghost use Rattle.spec_image.specs.Volume.{same_geometry, metadata_with, metadata_of};
@@ -13,9 +15,8 @@ ghost use Rattle.plain_image.specs.Plain.{metadata_read, HasBlocks, IsReadFrom};
 
 use crate::plain_after::replayed_blocks;
 use crate::plain_replay::replay_of;
-use crate::plain_super::super_from;
 use spec_disk::Block;
-use spec_record::{Geometry, Info, Node, NodeFault, Super, info_from, node_from};
+use spec_record::{Geometry, Info, Node, NodeFault, Super, info_from, node_from, super_from};
 use std::alloc::{AllocError, Global};
 
 /// The metadata blocks of an image with its journal replayed, and what block 0 of them says.
@@ -60,6 +61,14 @@ pub fn data_block<'a>(image: &'a [Block], geometry: &Geometry, d: u64) -> &'a Bl
     ensures { result.now ≡ block image.now (block_at geometry.now d) }
 {
     &image[geometry.block_at(d) as usize]
+}
+
+/// What a block 0 stands for on a device of so many blocks, or none.
+fn super_of_block(block: &Block, device_blocks: u64) -> Option<Super>
+    ensures value { result ≡ super_of block.now device_blocks }
+    ensures ok { IfSome result (SpellsSuper block.now device_blocks) }
+{
+    super_from(block, device_blocks).ok()
 }
 
 /// What a block says as the info block of a ring of so many slots, or none.
@@ -132,7 +141,7 @@ fn metadata_of_geometry(
         return Ok(None);
     };
     let blocks = after_of(alloc, image, geometry, info)?;
-    let Some(superblock) = super_from(&blocks[0], image.len() as u64) else {
+    let Some(superblock) = super_of_block(&blocks[0], image.len() as u64) else {
         return Ok(None);
     };
     if !is_same(&superblock.geometry, geometry) {
@@ -150,7 +159,7 @@ pub fn metadata_from(alloc: Global, image: &[Block]) -> Result<Option<MetadataBl
     if image.is_empty() {
         return Ok(None);
     }
-    let Some(superblock) = super_from(&image[0], image.len() as u64) else {
+    let Some(superblock) = super_of_block(&image[0], image.len() as u64) else {
         return Ok(None);
     };
     metadata_of_geometry(alloc, image, &superblock.geometry)

@@ -17,6 +17,7 @@ mod plain_entry;
 mod plain_field;
 mod plain_info;
 mod plain_node;
+mod plain_super;
 mod super_fault;
 mod superblock;
 
@@ -43,6 +44,7 @@ pub use plain_entry::{first_entry_fault, flag_at, has_magic, restored_of, stored
 pub use plain_field::{field_of, first_set_of, is_zero};
 pub use plain_info::info_from;
 pub use plain_node::node_from;
+pub use plain_super::super_from;
 pub use super_fault::SuperFault;
 pub use superblock::Super;
 

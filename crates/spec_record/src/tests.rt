@@ -2,8 +2,9 @@
 
 use crate::plain_entry::Block;
 use crate::{
-    EntryFault, Extent, Info, InfoFault, Inode, Node, NodeFault, crc_of, first_entry_fault,
-    info_from, node_from, restored_of, stored_of,
+    Container, EntryFault, Extent, Geometry, Info, InfoFault, Inode, Node, NodeFault, Super,
+    SuperFault, crc_of, first_entry_fault, info_from, node_from, restored_of, stored_of,
+    super_from,
 };
 use spec_tree::Digest;
 
@@ -166,8 +167,43 @@ fn info_after(offset: usize, value: u8, slots: u64) -> Result<Info, InfoFault> {
     info_from(&block, slots)
 }
 
+/// The value of an empty volume's superblock.
+fn empty() -> Super {
+    Super {
+        geometry: Geometry {
+            blocks: 64,
+            nodes: 128,
+            journal: 16,
+            version: 1,
+        },
+        blobs: 0,
+        used_blocks: 1,
+        used_nodes: 0,
+    }
+}
+
+/// That superblock with one byte changed, on a device of as many blocks as the volume needs.
+fn super_after(offset: usize, value: u8) -> Result<Super, SuperFault> {
+    let mut block = [0; 8192];
+    block[..16].copy_from_slice(b"blobvol\0profile1");
+    block[16] = 1;
+    block[24] = 64;
+    block[32] = 128;
+    block[40] = 16;
+    block[48] = 1;
+    block[56] = 1;
+    block[72] = 1;
+    if offset < 8192 {
+        block[offset] = value;
+    }
+    super_from(&block, 83)
+}
+
 #[test]
-fn each_byte_of_an_info_block_has_its_fault(rt: HostRuntime) {
+fn each_byte_of_a_superblock_and_an_info_block_has_its_fault(rt: HostRuntime) {
+    let rest = Err(SuperFault::Zero { offset: 8191 });
+    assert_eq!(rt; super_after(24, 64), Ok(empty()), "a superblock");
+    assert_eq!(rt; super_after(8191, 1), rest, "a superblock's last byte");
     assert_eq!(rt; crc_of(b"123456789"), 0xcbf4_3926);
     let read = Ok(Info {
         start: 14,
@@ -218,8 +254,33 @@ fn inode_after(offset: usize, value: u8, volume: u32) -> Result<Node, NodeFault>
     node_from(&bytes, volume)
 }
 
+/// What a container behind node 3 stands for in a volume of version 1: it has two extents, of two
+/// blocks from data block 9 on and of four from data block 20 on.
+fn container_read() -> Result<Node, NodeFault> {
+    let mut bytes = [0; 64];
+    bytes[..16].copy_from_slice(&[9, 0, 1, 0, 0xff, 0xff, 0xff, 0xff, 3, 0, 0, 0, 2, 0, 0, 0]);
+    bytes[16..32].copy_from_slice(&[9, 0, 0, 0, 0, 0, 2, 0, 20, 0, 0, 0, 0, 0, 4, 0]);
+    node_from(&bytes, 1)
+}
+
+/// The value of that container.
+fn container() -> Container {
+    let mut extents = [Extent { start: 0, len: 0 }; 6];
+    extents[0] = Extent { start: 9, len: 2 };
+    extents[1] = Extent { start: 20, len: 4 };
+    Container {
+        next: 0xffff_ffff,
+        previous: 3,
+        count: 2,
+        extents,
+        version: 1,
+    }
+}
+
 #[test]
-fn each_byte_of_an_inode_has_its_fault(rt: HostRuntime) {
+fn each_byte_of_a_node_has_its_fault(rt: HostRuntime) {
+    let container = Ok(Node::Container(container()));
+    assert_eq!(rt; container_read(), container, "a container");
     let inode = Inode {
         next: 0xffff_ffff,
         root: Digest([0xab; 32]),

@@ -12,11 +12,11 @@ returns-then-is_empty c =
 
 pub returns-in_default : goal.returns-in_default
 returns-in_default c =
-    let read : image_super c.args.image.now ≡ c.super_from.result = sym c.super_from.ensures.value in
+    let read : image_super c.args.image.now ≡ c.super_of_block.result = sym c.super_of_block.ensures.value in
     no_super c.args.image.now (read ∙ c.in_default.is)
 
 pub returns : goal.returns
 returns c =
-    let read : image_super c.args.image.now ≡ c.super_from.result = sym c.super_from.ensures.value in
+    let read : image_super c.args.image.now ≡ c.super_of_block.result = sym c.super_of_block.ensures.value in
     subst (λ (w : Option Metadata). IfOk c.metadata_of_geometry.result (λ found. MatchOption found (w ≡ None) (IsReadFrom c.args.image.now w)))
     (with_super c.args.image.now c.in-Some.superblock (read ∙ c.in-Some.is)) c.metadata_of_geometry.ensures

@@ -1,12 +1,12 @@
 //! The superblock by its definition, one row after another.
 
-ghost use Rattle.std.specs.Prelude.{◌≡◌, IfSome};
+ghost use Rattle.std.specs.Prelude.{◌≡◌};
 ghost use Rattle.spec_record.specs.Geometry.{is_block_count, is_node_count, is_journal_count};
-ghost use Rattle.spec_record.specs.Superblock.{super_in, super_or_fault, super_of};
-ghost use Rattle.spec_record.specs.Laws.{SpellsSuper};
+ghost use Rattle.spec_record.specs.Superblock.{super_in, super_or_fault};
 
-use spec_disk::Block;
-use spec_record::{FieldName, Geometry, Super, SuperFault, field_of, first_set_of, is_zero};
+use crate::plain_entry::Block;
+use crate::plain_field::{field_of, first_set_of, is_zero};
+use crate::{FieldName, Geometry, Super, SuperFault};
 
 /// The bytes `blobvol` and a zero byte.
 const MAGIC: u64 = 0x006c_6f76_626f_6c62;
@@ -75,8 +75,8 @@ fn super_fields(block: &Block) -> Super
 }
 
 /// What a block 0 stands for on a device of so many blocks, or the first row that fails.
-#[tactic(auto, unfolding(spec_record::specs::Superblock::super_or_fault))]
-fn super_tested(block: &Block, device_blocks: u64) -> Result<Super, SuperFault>
+#[tactic(auto, unfolding(crate::specs::Superblock::super_or_fault))]
+pub fn super_from(block: &Block, device_blocks: u64) -> Result<Super, SuperFault>
     ensures { result ≡ super_or_fault block.now device_blocks }
 {
     let sup = super_fields(block);
@@ -105,12 +105,4 @@ fn super_tested(block: &Block, device_blocks: u64) -> Result<Super, SuperFault>
         return Err(SuperFault::ShortDevice { wanted, has });
     }
     Ok(sup)
-}
-
-/// What a block 0 stands for on a device of so many blocks, or none.
-pub(crate) fn super_from(block: &Block, device_blocks: u64) -> Option<Super>
-    ensures value { result ≡ super_of block.now device_blocks }
-    ensures ok { IfSome result (SpellsSuper block.now device_blocks) }
-{
-    super_tested(block, device_blocks).ok()
 }
