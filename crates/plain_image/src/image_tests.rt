@@ -3,7 +3,7 @@
 //! A volume of version 2 has 64 data blocks, a journal of 16 blocks, and one or two blocks of nodes.
 //! Its two blobs take such data blocks that the bitmap begins as a journal header does.
 
-use crate::{blobs_from, bytes_from};
+use crate::{blobs_from, bytes_from, is_whole_from};
 use spec_disk::Block;
 use spec_tree::{Blob, Digest};
 use std::alloc::{AllocError, Global};
@@ -243,9 +243,16 @@ fn has_bytes(
     Ok(bytes.len() == size)
 }
 
+/// Whether the first blob is whole, and the second.
+fn are_whole(alloc: Global, image: &[Block]) -> Result<[bool; 2], AllocError> {
+    let first = is_whole_from(alloc, image, FIRST)?;
+    let second = is_whole_from(alloc, image, SECOND)?;
+    Ok([first, second])
+}
+
 #[test]
 fn an_image_stands_for_its_replayed_blobs_and_their_bytes(rt: HostRuntime) -> Result<(), Fail> {
-    for (name, image) in [
+    for (name, mut image) in [
         ("in place", settled(rt.alloc(), false)?),
         ("with two blocks of nodes", settled(rt.alloc(), true)?),
         ("in the journal", journaled(rt.alloc())?),
@@ -260,6 +267,10 @@ fn an_image_stands_for_its_replayed_blobs_and_their_bytes(rt: HostRuntime) -> Re
             bytes_from(rt.alloc(), &image, Digest([0; 32]))?.is_none(),
             "{name}"
         );
+        assert_eq!(rt; are_whole(rt.alloc(), &image)?, [true, true], "{name}");
+        let first_data = image.len().saturating_sub(3);
+        put_at(&mut image, first_data, 8191, &[0]);
+        assert_eq!(rt; are_whole(rt.alloc(), &image)?, [false, true], "{name}");
     }
     Ok(())
 }

@@ -11,6 +11,7 @@ mod plain_need;
 mod plain_records;
 mod plain_replay;
 mod plain_well_formed;
+mod plain_whole;
 
 pub use plain_blobs::{blobs_from, bytes_from};
 pub use plain_chain::{ChainedBlob, chain_from};
@@ -18,6 +19,7 @@ pub use plain_metadata::{MetadataBlocks, bit_at, data_block, metadata_from, node
 pub use plain_records::records_from;
 pub use plain_replay::{Accepted, Replayed, replay_of};
 pub use plain_well_formed::is_well_formed_with;
+pub use plain_whole::is_whole_from;
 
 #[cfg(test)]
 mod image_tests;
