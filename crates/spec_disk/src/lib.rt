@@ -16,7 +16,7 @@ pub use laws::{
     an_image_stays_until_a_sync, an_unwritten_block_is_as_synced, no_event_leaves_the_base,
     reads_are_wrong_after_a_failed_write, synced_and_now_are_images, synced_part_is_the_longest,
 };
-pub use now::{Block, now_of, synced_len, synced_of};
+pub use now::{Block, last_of, now_of, synced_len, synced_of};
 pub use one_event_more::{
     candidates_with_one_event_more, last_with_one_event_more, now_with_one_event_more,
     pending_with_one_event_more, reads_with_one_event_more, synced_with_one_event_more,

@@ -1,7 +1,7 @@
-//! What the disk is, and what the last Ok sync found, computed event by event.
+//! What the disk is, what was last written, and what the last Ok sync found, event by event.
 
 ghost use Rattle.std.specs.Prelude.{◌≡◌, ◌≤◌, ℕ, length, IfOk};
-ghost use Rattle.spec_disk.specs.Disk.{now_after, synced_part, synced_after};
+ghost use Rattle.spec_disk.specs.Disk.{now_after, last_after, synced_part, synced_after};
 
 use crate::event::Event;
 use std::alloc::{AllocError, Global};
@@ -18,6 +18,22 @@ pub fn now_of(alloc: Global, base: &[Block], events: &[Event]) -> Result<Vec<Blo
         if let Event::Write { at, bytes, ok } = event {
             let place = *at as usize;
             if *ok && place < disk.len() {
+                disk[place] = *bytes;
+            }
+        }
+    }
+    Ok(disk)
+}
+
+/// Last: the disk with every write applied, in order, failed ones too.
+pub fn last_of(alloc: Global, base: &[Block], events: &[Event]) -> Result<Vec<Block>, AllocError>
+    ensures { IfOk result (λ last. last.items ≡ last_after base.now events.now) }
+{
+    let mut disk = Vec::from_slice(alloc, base)?;
+    for event in events {
+        if let Event::Write { at, bytes, .. } = event {
+            let place = *at as usize;
+            if place < disk.len() {
                 disk[place] = *bytes;
             }
         }

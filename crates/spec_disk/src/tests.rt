@@ -1,6 +1,6 @@
 //! The plain programs on two blocks and a few events.
 
-use crate::{Block, Event, is_image, now_of, synced_of};
+use crate::{Block, Event, is_image, last_of, now_of, synced_of};
 use std::process::Abort;
 use std::test::Fail;
 
@@ -30,7 +30,7 @@ fn compare(rt: &impl Abort, blocks: &[Block], wanted: [u8; 2], what: &str) {
 }
 
 #[test]
-fn now_has_the_ok_writes_and_synced_those_before_the_last_ok_sync(
+fn now_has_the_ok_writes_last_all_and_synced_those_before_the_last_ok_sync(
     rt: HostRuntime,
 ) -> Result<(), Fail> {
     let base = [[0u8; 8192]; 2];
@@ -45,29 +45,27 @@ fn now_has_the_ok_writes_and_synced_those_before_the_last_ok_sync(
         Event::Sync { ok: true },
     ];
     let rows = [
-        (0, [0, 0], [0, 0], "no event"),
-        (1, [1, 0], [0, 0], "a write isn't synced"),
-        (2, [1, 0], [0, 0], "a failed write changes nothing"),
-        (3, [1, 0], [1, 0], "a sync"),
-        (4, [1, 3], [1, 0], "a write after the sync"),
-        (5, [1, 3], [1, 0], "a failed sync keeps nothing"),
-        (6, [1, 3], [1, 0], "a failed write after the sync"),
-        (7, [5, 3], [1, 0], "two blocks after the sync"),
-        (8, [5, 3], [5, 3], "the second sync"),
+        (0, [0, 0], [0, 0], [0, 0], "no event"),
+        (1, [1, 0], [1, 0], [0, 0], "a write isn't synced"),
+        (
+            2,
+            [1, 0],
+            [1, 2],
+            [0, 0],
+            "a failed write changes what was written last",
+        ),
+        (3, [1, 0], [1, 2], [1, 0], "a sync"),
+        (4, [1, 3], [1, 3], [1, 0], "a write after the sync"),
+        (5, [1, 3], [1, 3], [1, 0], "a failed sync keeps nothing"),
+        (6, [1, 3], [4, 3], [1, 0], "a failed write after the sync"),
+        (7, [5, 3], [5, 3], [1, 0], "two blocks after the sync"),
+        (8, [5, 3], [5, 3], [5, 3], "the second sync"),
     ];
-    for (count, now, synced, what) in rows {
-        compare(
-            &rt,
-            &now_of(rt.alloc(), &base, &events[..count])?,
-            now,
-            what,
-        );
-        compare(
-            &rt,
-            &synced_of(rt.alloc(), &base, &events[..count])?,
-            synced,
-            what,
-        );
+    for (count, now, last, synced, what) in rows {
+        let events = &events[..count];
+        compare(&rt, &now_of(rt.alloc(), &base, events)?, now, what);
+        compare(&rt, &last_of(rt.alloc(), &base, events)?, last, what);
+        compare(&rt, &synced_of(rt.alloc(), &base, events)?, synced, what);
     }
     Ok(())
 }
