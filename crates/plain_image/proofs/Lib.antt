@@ -6,3 +6,4 @@ mod PlainListLemmas
 mod PlainChainLemmas
 mod PlainMetadataLemmas
 mod PlainBlobLemmas
+mod VerifyingLemmas

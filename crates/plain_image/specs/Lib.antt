@@ -2,3 +2,4 @@
 pub mod Accepted
 pub mod Plain
 pub mod PlainChain
+pub mod Verifying

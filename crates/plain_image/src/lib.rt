@@ -12,6 +12,7 @@ mod plain_records;
 mod plain_replay;
 mod plain_well_formed;
 mod plain_whole;
+mod verifying;
 
 pub use plain_blobs::{blobs_from, bytes_from};
 pub use plain_chain::{ChainedBlob, chain_from};
@@ -20,6 +21,7 @@ pub use plain_records::records_from;
 pub use plain_replay::{Accepted, Replayed, replay_of};
 pub use plain_well_formed::is_well_formed_with;
 pub use plain_whole::is_whole_from;
+pub use verifying::verifies;
 
 #[cfg(test)]
 mod image_tests;
