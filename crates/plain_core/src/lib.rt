@@ -3,6 +3,7 @@
 
 mod changing;
 pub mod choosing;
+pub mod legality;
 mod less;
 mod lookups;
 pub mod machine;
@@ -10,6 +11,7 @@ mod purging;
 pub mod step;
 
 pub use choosing::is_chosen;
+pub use legality::is_legal;
 pub use machine::Machine;
 pub use step::step_of;
 

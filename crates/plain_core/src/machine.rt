@@ -1,11 +1,15 @@
 //! The core, run in memory: plain, and slower than the volume.
 
-ghost use Rattle.std.specs.Prelude.{◌≡◌, []};
-ghost use Rattle.spec_core.specs.History.{first_state};
+ghost use Rattle.std.specs.Prelude.{◌≡◌, [], IfOk};
+ghost use Rattle.std.specs.List.Sorted.{IsStrictlySortedBy};
+ghost use Rattle.std.specs.Map.{keys_of};
+ghost use Rattle.spec_core.specs.History.{first_state, opening_map, setting_of};
+ghost use Rattle.spec_tree.specs.Order.{digest_cmp};
 
+use bv_model::History;
 use spec_core::{MapChange, Place, Setting};
 use spec_tree::{Blob, Digest};
-use std::alloc::Global;
+use std::alloc::{AllocError, Global};
 use std::collections::{BTreeMap, BTreeSet};
 use std::marker::Model;
 
@@ -34,6 +38,24 @@ impl Model for Machine {
     ghost view = { core_of };
 }
 
+/// The opening map of a history.
+fn opening_of(alloc: Global, h: &History) -> Result<BTreeMap<Digest, Blob>, AllocError>
+    requires { IsStrictlySortedBy digest_cmp (keys_of (opening_map h.now)) }
+    ensures { IfOk result (λ map. map.entries ≡ opening_map h.now) }
+{
+    let mut map = BTreeMap::new(alloc);
+    for (root, size, version) in h.opening() {
+        map.insert(
+            *root,
+            Blob {
+                size: *size,
+                version: *version,
+            },
+        )?;
+    }
+    Ok(map)
+}
+
 impl Machine {
     /// The core as a mount of an empty volume begins, with the number of its first entry.
     pub fn new(alloc: Global, setting: Setting, next: u64) -> Machine
@@ -52,6 +74,19 @@ impl Machine {
             stopped: None,
             next,
         }
+    }
+
+    /// The core as the mount of a history began, whose opening is in the order of the roots' bytes;
+    /// `next` is the number of its first entry.
+    pub fn mounted(alloc: Global, h: &History, next: u64) -> Result<Machine, AllocError>
+        requires { IsStrictlySortedBy digest_cmp (keys_of (opening_map h.now)) }
+        ensures setting { IfOk result (λ core. core.setting ≡ setting_of h.now) }
+        ensures state { IfOk result (λ core. core.state ≡ first_state (opening_map h.now) next) }
+    {
+        Ok(Machine {
+            map: opening_of(alloc, h)?,
+            ..Machine::new(alloc, h.setting(), next)
+        })
     }
 
     /// The number of the next entry.
