@@ -1,6 +1,7 @@
 //! The core of a volume as a plain program: slow, in memory, and each step by the tables.
 #![tactic(auto)]
 
+mod caused;
 mod changing;
 pub mod choosing;
 pub mod legality;
@@ -10,6 +11,7 @@ pub mod machine;
 mod purging;
 pub mod step;
 
+pub use caused::is_caused;
 pub use choosing::is_chosen;
 pub use legality::is_legal;
 pub use machine::Machine;
