@@ -7,3 +7,4 @@ mod PlainChainLemmas
 mod PlainMetadataLemmas
 mod PlainBlobLemmas
 mod VerifyingLemmas
+mod PlainChanceLemmas

@@ -85,9 +85,12 @@ no_bytes : super_of [] 0 ≡ None
 unfolding super_or_fault field number_of
 no_bytes = refl
 
+pub no_block : (image : List (List ℕ)) → length image ≡ 0 → image_super image ≡ None
+no_block [] none = no_bytes
+no_block (b ∷ bs) none = absurd cc
+
 pub no_blocks : (image : List (List ℕ)) → length image ≡ 0 → metadata_of image ≡ None
-no_blocks [] none = no_super [] no_bytes
-no_blocks (b ∷ bs) none = absurd cc
+no_blocks image none = no_super image (no_block image none)
 
 pub with_super : (image : List (List ℕ)) (s : Super) → image_super image ≡ Some s → metadata_with image s.geometry ≡ metadata_of image
 unfolding metadata_of

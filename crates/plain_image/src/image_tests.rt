@@ -50,14 +50,14 @@ fn put(block: &mut Block, offset: usize, bytes: &[u8]) {
 }
 
 /// Writes bytes at an offset of a block of an image.
-fn put_at(image: &mut [Block], at: usize, offset: usize, bytes: &[u8]) {
+pub(crate) fn put_at(image: &mut [Block], at: usize, offset: usize, bytes: &[u8]) {
     if let Some(block) = image.get_mut(at) {
         put(block, offset, bytes);
     }
 }
 
 /// Puts a block in its place of an image.
-fn set(image: &mut [Block], at: usize, block: &Block) {
+pub(crate) fn set(image: &mut [Block], at: usize, block: &Block) {
     put_at(image, at, 0, block);
 }
 
@@ -78,7 +78,7 @@ fn superblock(node_blocks: u8, counts: [u8; 3]) -> Block {
 }
 
 /// An info block of a start and a number, with its checksum.
-fn info(start: u8, number: u8, checksum: u32) -> Block {
+pub(crate) fn info(start: u8, number: u8, checksum: u32) -> Block {
     let mut block = [0; 8192];
     put(
         &mut block,
@@ -186,7 +186,7 @@ fn settled(alloc: Global, two: bool) -> Result<Vec<Block>, AllocError> {
 
 /// The image whose metadata blocks have no blob, with an entry of the two blobs that wraps around
 /// the ring and has an escaped payload, the bitmap.
-fn journaled(alloc: Global) -> Result<Vec<Block>, AllocError> {
+pub(crate) fn journaled(alloc: Global) -> Result<Vec<Block>, AllocError> {
     let mut image = settled(alloc, false)?;
     let mut last = nodes(3);
     put_last(&mut last);

@@ -3,6 +3,7 @@
 //! Each program's contract is the definition of `spec_image` that it computes.
 #![tactic(auto)]
 
+mod chances;
 mod plain_after;
 mod plain_blobs;
 mod plain_chain;
@@ -14,6 +15,7 @@ mod plain_well_formed;
 mod plain_whole;
 mod verifying;
 
+pub use chances::is_no_chance;
 pub use plain_blobs::{blobs_from, bytes_from};
 pub use plain_chain::{ChainedBlob, chain_from};
 pub use plain_metadata::{MetadataBlocks, bit_at, data_block, metadata_from, node_at};
@@ -23,6 +25,8 @@ pub use plain_well_formed::is_well_formed_with;
 pub use plain_whole::is_whole_from;
 pub use verifying::verifies;
 
+#[cfg(test)]
+mod chance_tests;
 #[cfg(test)]
 mod image_tests;
 #[cfg(test)]

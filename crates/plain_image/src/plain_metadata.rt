@@ -64,7 +64,7 @@ pub fn data_block<'a>(image: &'a [Block], geometry: &Geometry, d: u64) -> &'a Bl
 }
 
 /// What a block 0 stands for on a device of so many blocks, or none.
-fn super_of_block(block: &Block, device_blocks: u64) -> Option<Super>
+pub(crate) fn super_of_block(block: &Block, device_blocks: u64) -> Option<Super>
     ensures value { result ≡ super_of block.now device_blocks }
     ensures ok { IfSome result (SpellsSuper block.now device_blocks) }
 {
@@ -80,7 +80,7 @@ fn info_of_block(block: &Block, slots: u64) -> Option<Info>
 }
 
 /// What the info block of an image of this geometry says, or none.
-fn info_in(image: &[Block], geometry: &Geometry) -> Option<Info>
+pub(crate) fn info_in(image: &[Block], geometry: &Geometry) -> Option<Info>
     requires limits { IsGeometry geometry.now }
     requires room { total_blocks geometry.now ≤ length image.now }
     ensures value { result ≡ (journal_of geometry.now image.now).info }
@@ -90,7 +90,7 @@ fn info_in(image: &[Block], geometry: &Geometry) -> Option<Info>
 }
 
 /// The ring of an image of this geometry.
-fn ring_of<'a>(image: &'a [Block], geometry: &Geometry) -> &'a [Block]
+pub(crate) fn ring_of<'a>(image: &'a [Block], geometry: &Geometry) -> &'a [Block]
     requires limits { IsGeometry geometry.now }
     requires room { total_blocks geometry.now ≤ length image.now }
     ensures ring { result.now ≡ ring_in geometry.now image.now }
