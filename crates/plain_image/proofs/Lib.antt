@@ -8,3 +8,4 @@ mod PlainMetadataLemmas
 mod PlainBlobLemmas
 mod VerifyingLemmas
 mod PlainChanceLemmas
+mod SoundLemmas

@@ -1,6 +1,6 @@
 -- The numbers of digests of a level fit, and the parts of a window that verifies.
-use Rattle.std.proofs.Common.{◌≡◌, ◌↔◌, IsTrue, Bool, ℕ, ◌+◌, ◌-◌, ◌*◌, ◌^◌, ◌<◌, ◌≤◌, List, length, take, drop, get_or, replicate, All, ap, sym, ◌∙◌, subst, arith}
-use Rattle.std.proofs.Math.Nat.{one-le-pow, pow-le-pow_right}
+use Rattle.std.proofs.Common.{◌≡◌, ◌↔◌, IsTrue, Bool, ℕ, ◌+◌, ◌-◌, ◌*◌, ◌/◌, ◌^◌, ◌<◌, ◌≤◌, List, length, take, drop, get_or, replicate, All, ap, sym, ◌∙◌, subst, arith}
+use Rattle.std.proofs.Math.Nat.{div-lt_iff_lt-mul, one-le-pow, pow-le-pow_right}
 use Rattle.std.proofs.lemmas.List.{get_or-map, take_all, drop-replicate, length-map}
 use Rattle.std.proofs.lemmas.List.Elements.{All-map, All-more}
 use Rattle.std.specs.Prelude.{Vec, []}
@@ -13,6 +13,12 @@ power_fits level few = let most : 256 ^ level ≤ 256 ^ 7 = pow-le-pow_right {n 
 
 pub power_some : (level : ℕ) → 0 < 256 ^ level
 power_some level = omega (arith, one-le-pow level 256 (omega arith))
+
+-- above level 0 there is at most one block for each 256 data blocks
+pub index_few : (n level : ℕ) → 1 ≤ level → n < 2 ^ 51 → n / 256 ^ level < 2 ^ 43
+index_few n level some few =
+    let least : 256 ≤ 256 ^ level = pow-le-pow_right {n = 256} (omega arith) {i = 1} some in
+    (div-lt_iff_lt-mul (power_some level)).1 (omega (arith, least, few))
 
 -- the blocks of a path that has gone through the test of their lengths
 pub blocks_long : (path : List (Vec ℕ Global)) (i : ℕ) → length path ≤ i → All (λ block. length block.items ≡ 8192) (take i path)

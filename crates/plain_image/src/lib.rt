@@ -4,6 +4,7 @@
 #![tactic(auto)]
 
 mod chances;
+mod fetching;
 mod plain_after;
 mod plain_blobs;
 mod plain_chain;
@@ -13,6 +14,7 @@ mod plain_records;
 mod plain_replay;
 mod plain_well_formed;
 mod plain_whole;
+mod soundness;
 mod verifying;
 
 pub use chances::is_no_chance;
@@ -23,6 +25,7 @@ pub use plain_records::records_from;
 pub use plain_replay::{Accepted, Replayed, replay_of};
 pub use plain_well_formed::is_well_formed_with;
 pub use plain_whole::is_whole_from;
+pub use soundness::is_sound_from;
 pub use verifying::verifies;
 
 #[cfg(test)]

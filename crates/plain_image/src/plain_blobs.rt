@@ -8,7 +8,7 @@ ghost use Rattle.spec_record.specs.Extent.{IsExtent};
 ghost use Rattle.spec_record.specs.Geometry.{IsGeometry, block_at, total_blocks};
 ghost use Rattle.spec_tree.specs.Order.{same_digest};
 ghost use Rattle.spec_image.specs.Blobs.{blob_map};
-ghost use Rattle.spec_image.specs.Stored.{blocks_of, bytes_in};
+ghost use Rattle.spec_image.specs.Stored.{blocks_of, bytes_in, stored_data};
 ghost use Rattle.spec_image.specs.Volume.{metadata_of, blobs, bytes_of};
 ghost use Rattle.plain_image.specs.Plain.{IsVolume, blob_record};
 
@@ -24,13 +24,13 @@ use std::collections::BTreeMap;
 
 /// The blobs of an image, and where its regions lie.
 #[derive(Drop)]
-struct Volume {
-    geometry: Geometry,
-    records: Vec<ChainedBlob>,
+pub(crate) struct Volume {
+    pub(crate) geometry: Geometry,
+    pub(crate) records: Vec<ChainedBlob>,
 }
 
 /// The blobs of an image with metadata, or none.
-fn volume_from(alloc: Global, image: &[Block]) -> Result<Option<Volume>, AllocError>
+pub(crate) fn volume_from(alloc: Global, image: &[Block]) -> Result<Option<Volume>, AllocError>
     ensures { IfOk result (λ found.
         MatchOption found (metadata_of image.now ≡ None) (IsVolume image.now)) }
 {
@@ -99,7 +99,7 @@ fn add_extent(
 }
 
 /// The data blocks of these extents, in order.
-fn stored_from(
+pub(crate) fn stored_from(
     alloc: Global,
     image: &[Block],
     geometry: &Geometry,
@@ -119,7 +119,7 @@ fn stored_from(
 }
 
 /// The bytes of these blocks, one after another.
-fn joined_bytes(alloc: Global, blocks: &[Block]) -> Result<Vec<u8>, AllocError>
+pub(crate) fn joined_bytes(alloc: Global, blocks: &[Block]) -> Result<Vec<u8>, AllocError>
     ensures { IfOk result (λ bytes. bytes.items ≡ concat blocks.now) }
 {
     let mut bytes = Vec::new(alloc);
@@ -143,6 +143,23 @@ fn last_blocks(blocks: &[Block], count: usize) -> &[Block]
     &blocks[blocks.len().saturating_sub(count)..]
 }
 
+/// The bytes of the data blocks among a blob's blocks.
+pub(crate) fn data_in(
+    alloc: Global,
+    blob: &ChainedBlob,
+    blocks: &[Block],
+) -> Result<Vec<u8>, AllocError>
+    ensures { IfOk result (λ bytes. bytes.items ≡ stored_data (blob_record blob.now) blocks.now) }
+{
+    let count = blob.size.div_ceil(8192) as usize;
+    let data = if blob.version == 2 {
+        first_blocks(blocks, count)
+    } else {
+        last_blocks(blocks, count)
+    };
+    joined_bytes(alloc, data)
+}
+
 /// The bytes of a blob in an image.
 fn bytes_in_extents(
     alloc: Global,
@@ -157,19 +174,13 @@ fn bytes_in_extents(
         ≡ bytes_in geometry.now image.now (blob_record blob.now)) }
 {
     let blocks = stored_from(alloc, image, geometry, &blob.extents)?;
-    let count = blob.size.div_ceil(8192) as usize;
-    let data = if blob.version == 2 {
-        first_blocks(&blocks, count)
-    } else {
-        last_blocks(&blocks, count)
-    };
-    let mut bytes = joined_bytes(alloc, data)?;
+    let mut bytes = data_in(alloc, blob, &blocks)?;
     bytes.truncate(blob.size as usize);
     Ok(bytes)
 }
 
 /// The first of these blobs with a root.
-fn first_named(records: &[ChainedBlob], root: Digest) -> Option<&ChainedBlob>
+pub(crate) fn first_named(records: &[ChainedBlob], root: Digest) -> Option<&ChainedBlob>
     ensures { option_map (λ b. blob_record b.now) result
         ≡ find (λ b. same_digest root b.root) (map blob_record records.now) }
 {

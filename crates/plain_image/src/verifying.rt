@@ -10,7 +10,7 @@ use bv_merkle::{block_digest, levels, windows};
 use spec_tree::Digest;
 
 /// The bytes from an offset on.
-fn rest(bytes: &[u8], from: usize) -> &[u8]
+pub fn rest(bytes: &[u8], from: usize) -> &[u8]
     ensures { result.now ≡ drop from bytes.now }
 {
     &bytes[from.min(bytes.len())..]
@@ -54,7 +54,8 @@ pub fn window_bytes(size: u64, window: u64) -> u64
 pub fn index_above(window: u64, level: u32) -> u64
     requires window { window < 2 ^ 48 }
     requires level { level ≤ 7 }
-    ensures { result ≡ W.index_above window level }
+    ensures value { result ≡ W.index_above window level }
+    ensures few { 1 ≤ level → result < 2 ^ 43 }
 {
     8 * window / 256u64.pow(level)
 }
