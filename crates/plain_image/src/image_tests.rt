@@ -3,7 +3,8 @@
 //! A volume of version 2 has 64 data blocks, a journal of 16 blocks, and one or two blocks of nodes.
 //! Its two blobs take such data blocks that the bitmap begins as a journal header does.
 
-use crate::{blobs_from, bytes_from, is_whole_from};
+use crate::{blobs_from, bytes_from, is_sound_from, is_whole_from};
+use bv_merkle::block_digest;
 use spec_disk::Block;
 use spec_tree::{Blob, Digest};
 use std::alloc::{AllocError, Global};
@@ -156,15 +157,33 @@ fn fill(image: &mut [Block], data: usize, extent: (u8, u8), first: u8) {
     }
 }
 
+/// Puts the digest of data block `k` of a blob, of so many bytes `byte`, into the blob's tree.
+fn put_digest(tree: &mut Block, k: u8, byte: u8, count: usize) {
+    let digest = block_digest(0, 8192 * k as u64, &[byte; 8192][..count.min(8192)]);
+    put(tree, 32 * k as usize, &digest.0);
+}
+
+/// The digests of a blob's data blocks, of which block k has bytes `first + k`, before bytes `behind`.
+/// The block `last` has so many bytes.
+fn tree(first: u8, last: u8, count: usize, behind: u8) -> Block {
+    let mut tree = [behind; 8192];
+    for k in 0..last {
+        put_digest(&mut tree, k, first.wrapping_add(k), 8192);
+    }
+    put_digest(&mut tree, last, first.wrapping_add(last), count);
+    tree
+}
+
 /// Fills the blobs' blocks: the first blob's tree and data, the second's data and tree.
 fn fill_data(image: &mut [Block], data: usize) {
-    fill(image, data, (57, 1), 0xff);
+    set(image, data.saturating_add(57), &tree(0xa1, 1, 5, 0));
     fill(image, data, (61, 2), 0xa1);
     let mut byte = 1u8;
     for extent in EXTENTS {
         fill(image, data, extent, byte);
         byte = byte.wrapping_add(extent.1);
     }
+    set(image, data.saturating_add(54), &tree(1, 28, 8092, 30));
 }
 
 /// The image whose metadata blocks have the two blobs, with an empty journal, and one or two blocks
@@ -250,6 +269,13 @@ fn are_whole(alloc: Global, image: &[Block]) -> Result<[bool; 2], AllocError> {
     Ok([first, second])
 }
 
+/// Whether the first blob is sound, and the second.
+fn are_sound(alloc: Global, image: &[Block]) -> Result<[bool; 2], AllocError> {
+    let first = is_sound_from(alloc, image, FIRST)?;
+    let second = is_sound_from(alloc, image, SECOND)?;
+    Ok([first, second])
+}
+
 #[test]
 fn an_image_stands_for_its_replayed_blobs_and_their_bytes(rt: HostRuntime) -> Result<(), Fail> {
     for (name, mut image) in [
@@ -268,6 +294,7 @@ fn an_image_stands_for_its_replayed_blobs_and_their_bytes(rt: HostRuntime) -> Re
             "{name}"
         );
         assert_eq!(rt; are_whole(rt.alloc(), &image)?, [true, true], "{name}");
+        assert_eq!(rt; are_sound(rt.alloc(), &image)?, [true, true], "{name}");
         let first_data = image.len().saturating_sub(3);
         put_at(&mut image, first_data, 8191, &[0]);
         assert_eq!(rt; are_whole(rt.alloc(), &image)?, [false, true], "{name}");
@@ -315,6 +342,31 @@ fn one_wrong_byte_in_the_metadata_leaves_no_map(rt: HostRuntime) -> Result<(), F
         let mut image = settled(rt.alloc(), false)?;
         put_at(&mut image, block, offset, &[value]);
         assert_eq!(rt; found(rt.alloc(), &image)?, None, "{name}");
+    }
+    Ok(())
+}
+
+#[test]
+fn one_wrong_byte_in_a_window_leaves_its_blob_unsound(rt: HostRuntime) -> Result<(), Fail> {
+    let rows = [
+        ("the first blob's data", 62, 4, 0, [false, true]),
+        ("behind the first blob's data", 62, 5, 0, [true, true]),
+        ("the first blob's tree", 57, 0, 0, [false, true]),
+        (
+            "an unused place of the first blob's tree",
+            57,
+            8191,
+            1,
+            [false, true],
+        ),
+        ("the second blob's last window", 53, 8091, 0, [true, false]),
+        ("the second blob's tree", 54, 927, 0, [true, false]),
+        ("behind the second blob's tree", 54, 928, 0, [true, true]),
+    ];
+    for (name, block, offset, value, sound) in rows {
+        let mut image = settled(rt.alloc(), false)?;
+        put_at(&mut image, 19 + block, offset, &[value]);
+        assert_eq!(rt; are_sound(rt.alloc(), &image)?, sound, "{name}");
     }
     Ok(())
 }

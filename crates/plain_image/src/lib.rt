@@ -34,3 +34,5 @@ mod chance_tests;
 mod image_tests;
 #[cfg(test)]
 mod tests;
+#[cfg(test)]
+mod verifying_tests;
