@@ -1,6 +1,6 @@
 //! How many blocks, levels and windows a blob of a size in bytes has.
 
-ghost use Rattle.std.specs.Prelude.{◌≡◌, ℕ, ◌+◌, ◌≤◌, ◌⊎◌};
+ghost use Rattle.std.specs.Prelude.{◌≡◌, ℕ, ◌+◌, ◌≤◌};
 ghost use Rattle.spec_tree.specs.Tree.{need_of, tree_blocks_of as tree_need_of, levels_of, windows_of};
 
 use crate::{BLOCK_LEN, DIGESTS, WINDOW_LEN};
@@ -26,9 +26,8 @@ pub fn windows(size: u64) -> u64
     size.div_ceil(WINDOW_LEN as u64).max(1)
 }
 
-/// The blocks of a tree in a version of the format.
+/// The blocks of a tree in a version of the format; a version other than 1 and 2 counts as 1.
 pub fn tree_blocks_of(version: u32, size: u64) -> u64
-    requires { (version ≡ 1) ⊎ (version ≡ 2) }
     ensures { result ≡ tree_need_of version size }
 {
     let mut digests = size.div_ceil(BLOCK_LEN as u64).max(1);
@@ -53,9 +52,9 @@ pub fn tree_blocks(size: u64) -> u64
     tree_blocks_of(1, size)
 }
 
-/// The blocks of a blob, its data and its tree, in a version of the format.
+/// The blocks of a blob, its data and its tree, in a version of the format; a version other than 1
+/// and 2 counts as 1.
 pub fn blocks_needed_of(version: u32, size: u64) -> u64
-    requires { (version ≡ 1) ⊎ (version ≡ 2) }
     ensures { result ≡ need_of version size }
 {
     size.div_ceil(BLOCK_LEN as u64) + tree_blocks_of(version, size)

@@ -7,12 +7,12 @@
 mod adding;
 mod deed;
 pub mod history;
-mod need;
+mod nodes;
 pub mod rescan;
 pub mod room;
 
 pub use history::History;
-pub use need::{need_of, worst_nodes};
+pub use nodes::worst_nodes;
 pub use rescan::{logged_by, synced_by};
 pub use room::room_of;
 pub use spec_core::{Act, Choice, CoreEvent, MapChange, Place, Reply, Setting, Who};

@@ -12,8 +12,8 @@ ghost use Rattle.bv_model.specs.Taking as T;
 use crate::adding::{Adding, adding_of};
 use crate::deed::{deed_of, fails};
 use crate::history::History;
-use crate::need::need_of;
 use crate::rescan::{Standing, held_after, standing_for};
+use bv_merkle::blocks_needed_of;
 use spec_core::{CoreEvent, Deed};
 use spec_tree::{Blob, Digest};
 
@@ -69,7 +69,7 @@ fn opening_blocks(h: &History) -> u128
     let mut all = 0;
     for i in 0..opening.len() {
         let (_, size, version) = opening[i];
-        all += u128::from(need_of(version, size));
+        all += u128::from(blocks_needed_of(version, size));
     }
     all
 }
@@ -126,7 +126,7 @@ fn add_need(h: &History, count: usize, root: Digest) -> u64
 {
     let known = known_after(h, count, root);
     if known.adding {
-        need_of(h.setting().version, known.blob.size)
+        blocks_needed_of(h.setting().version, known.blob.size)
     } else {
         0
     }
@@ -138,7 +138,7 @@ fn blob_need(h: &History, count: usize, root: Digest) -> u64
     ensures { C.After h.now count (λ s. T.NeedsAt s root result) }
 {
     let known = known_after(h, count, root);
-    need_of(known.blob.version, known.blob.size)
+    blocks_needed_of(known.blob.version, known.blob.size)
 }
 
 /// The blocks of the blob that a deed unlinks, or closes a place of.
@@ -164,7 +164,7 @@ fn event_need(h: &History, count: usize, event: &CoreEvent) -> u64
         T.NeedsOf (setting_of h.now) s event.now.who event.now.act event.now.reply result) }
 {
     match adding_of(event) {
-        Adding::Begins { size, .. } => need_of(h.setting().version, size),
+        Adding::Begins { size, .. } => blocks_needed_of(h.setting().version, size),
         Adding::Ends { root } => add_need(h, count, root),
         Adding::Publishes { .. } | Adding::Nothing => deed_need(h, count, deed_of(event)),
     }

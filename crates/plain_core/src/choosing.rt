@@ -9,7 +9,8 @@ ghost use Rattle.spec_core.specs.Step.{Chosen, IsNoNodes};
 use crate::less::{less_adds, less_blob_nodes, less_blobs, less_other_nodes, less_purges};
 use crate::lookups::{count_present, holders, is_nothing, is_unlinked, present};
 use crate::machine::Machine;
-use bv_model::{need_of, worst_nodes};
+use bv_merkle::blocks_needed_of;
+use bv_model::worst_nodes;
 use spec_core::{Act, Choice, MapChange, Place, Reply, Who};
 use spec_tree::Digest;
 
@@ -79,7 +80,7 @@ impl Machine {
         if self.adds.contains_key(&root) {
             return Choice::Only(Reply::InFlight);
         }
-        let need = need_of(self.setting.version, size);
+        let need = blocks_needed_of(self.setting.version, size);
         let room = self.room();
         if room < need {
             Choice::Only(Reply::NoSpace { need, room })

@@ -8,7 +8,8 @@ ghost use Rattle.spec_tree.specs.Tree as T;
 ghost use Rattle.spec_tree.specs.Order.{digest_cmp};
 ghost use Rattle.spec_core.specs.Room as R;
 
-use bv_model::{need_of, worst_nodes};
+use bv_merkle::blocks_needed_of;
+use bv_model::worst_nodes;
 use spec_core::MapChange;
 use spec_tree::{Blob, Digest};
 use std::collections::BTreeMap;
@@ -19,7 +20,7 @@ pub(crate) fn less_blobs(left: u64, map: &BTreeMap<Digest, Blob>) -> u64
 {
     let mut rest = left;
     for blob in map.values() {
-        rest = rest.saturating_sub(need_of(blob.version, blob.size));
+        rest = rest.saturating_sub(blocks_needed_of(blob.version, blob.size));
     }
     rest
 }
@@ -30,7 +31,7 @@ pub(crate) fn less_adds(left: u64, version: u32, adds: &BTreeMap<Digest, u64>) -
 {
     let mut rest = left;
     for size in adds.values() {
-        rest = rest.saturating_sub(need_of(version, *size));
+        rest = rest.saturating_sub(blocks_needed_of(version, *size));
     }
     rest
 }
@@ -42,7 +43,7 @@ pub(crate) fn less_purges(left: u64, changes: &[MapChange]) -> u64
     let mut rest = left;
     for change in changes {
         if let MapChange::Purge { blob, .. } = change {
-            rest = rest.saturating_sub(need_of(blob.version, blob.size));
+            rest = rest.saturating_sub(blocks_needed_of(blob.version, blob.size));
         }
     }
     rest

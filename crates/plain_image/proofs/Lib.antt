@@ -1,5 +1,4 @@
 mod PlainReplayLemmas
-mod PlainNeedLemmas
 mod PlainAfterLemmas
 mod PlainTestLemmas
 mod PlainListLemmas

@@ -9,7 +9,6 @@ mod plain_after;
 mod plain_blobs;
 mod plain_chain;
 mod plain_metadata;
-mod plain_need;
 mod plain_records;
 mod plain_replay;
 mod plain_well_formed;

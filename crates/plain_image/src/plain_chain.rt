@@ -10,7 +10,7 @@ ghost use Rattle.plain_image.specs.PlainChain.{walked, chained, tested_container
 ghost use Rattle.plain_image.specs.PlainChain.{end_of_walk, with_sum};
 
 use crate::plain_metadata::{MetadataBlocks, node_at};
-use crate::plain_need::blocks_needed;
+use bv_merkle::blocks_needed_of;
 use spec_record::{Container, Extent, Inode, Node, NodeFault};
 use spec_tree::Digest;
 use std::alloc::{AllocError, Global};
@@ -79,7 +79,7 @@ fn check_inode(inode: &Inode) -> Result<(), NodeFault>
 {
     let blocks = inode.blocks as u64;
     let extents = inode.extents as u64;
-    let needed = blocks_needed(inode.version, inode.size);
+    let needed = blocks_needed_of(u32::from(inode.version), inode.size);
     count(blocks == needed, blocks, needed)?;
     count(blocks <= 65_535, blocks, 65_535)?;
     count(blocks == 0 || 1 <= extents, 0, 1)?;
