@@ -1,12 +1,9 @@
 //! Histories, and what the calls that go over them say, against numbers worked out by hand.
 
-ghost use Rattle.std.specs.Prelude.{◌≡◌, ◌≤◌, ◌-◌, ◌++◌, ◌∷◌, [], All, IfOk, OnOk};
-ghost use Rattle.spec_core.specs.History.{Legal, setting_of, last_state};
-
-use crate::{Machine, step_of};
+use crate::{is_caused, is_legal};
 use bv_model::{History, logged_by, room_of, synced_by};
 use spec_core::{Act, CoreEvent, Reply, Setting, Who};
-use spec_tree::{Blob, Digest};
+use spec_tree::Digest;
 use std::alloc::{AllocError, Global};
 use std::process::Abort;
 use std::test::Fail;
@@ -23,58 +20,56 @@ const D: Digest = Digest([4; 32]);
 const BLOCK: u64 = 8192;
 
 /// An event of session 0, noted after so many calls of the device.
-fn note(history: &mut History, act: Act, reply: Reply, calls: u64)
-    requires { 1 ≤ history.old.spare }
-    ensures { history.new ≡ record history.old {
-      events = history.old.events ++ record {
-        who = record { session = 0; line = 1 };
-        act = act;
-        reply = reply;
-        calls = calls;
-      } ∷ [];
-      spare = history.old.spare - 1;
-    } }
-{
+fn note(history: &mut History, act: Act, reply: Reply, calls: u64) -> Result<(), AllocError> {
     let who = Who {
         session: 0,
         line: 1,
     };
+    history.reserve(1)?;
     history.note(CoreEvent {
         who,
         act,
         reply,
         calls,
     });
+    Ok(())
 }
 
 /// A blob is unlinked while it is open, then closed between two syncs; the third sync, which has
-/// another blob to purge, fails.
-fn history_of_a_purge(alloc: Global) -> Result<History, AllocError>
-    ensures { IfOk result (λ h. Legal h 1) }
-{
+/// another blob to purge, fails. Each event with the calls after it.
+const PURGE: [(Act, Reply, u64); 8] = [
+    (
+        Act::Open { slot: 0, root: A },
+        Reply::Opened { size: BLOCK },
+        0,
+    ),
+    (Act::Unlink { root: A }, Reply::Unlinked, 0),
+    (Act::Sync, Reply::Synced, 2),
+    (Act::Close { slot: 0 }, Reply::Closed, 2),
+    (Act::Sync, Reply::Synced, 4),
+    (Act::Unlink { root: B }, Reply::Unlinked, 4),
+    (Act::Sync, Reply::DeviceFault { fault: 9 }, 5),
+    (Act::Unmount, Reply::Stopped { fault: 9 }, 5),
+];
+
+/// A history of these events, over two blobs of a block.
+fn history_over(
+    alloc: Global,
+    roots: [Digest; 2],
+    events: &[(Act, Reply, u64)],
+) -> Result<History, AllocError> {
     let setting = Setting {
         blocks: 16,
         nodes: 4,
         version: 1,
     };
     let mut opening = Vec::new(alloc);
-    opening.push((A, BLOCK, 1))?;
-    opening.push((B, BLOCK, 1))?;
+    opening.push((roots[0], BLOCK, 1))?;
+    opening.push((roots[1], BLOCK, 1))?;
     let mut history = History::new(alloc, setting, opening);
-    history.reserve(8)?;
-    note(
-        &mut history,
-        Act::Open { slot: 0, root: A },
-        Reply::Opened { size: BLOCK },
-        0,
-    );
-    note(&mut history, Act::Unlink { root: A }, Reply::Unlinked, 0);
-    note(&mut history, Act::Sync, Reply::Synced, 2);
-    note(&mut history, Act::Close { slot: 0 }, Reply::Closed, 2);
-    note(&mut history, Act::Sync, Reply::Synced, 4);
-    note(&mut history, Act::Unlink { root: B }, Reply::Unlinked, 4);
-    note(&mut history, Act::Sync, Reply::DeviceFault { fault: 9 }, 5);
-    note(&mut history, Act::Unmount, Reply::Stopped { fault: 9 }, 5);
+    for (act, reply, calls) in events {
+        note(&mut history, *act, *reply, *calls)?;
+    }
     Ok(history)
 }
 
@@ -82,7 +77,8 @@ fn history_of_a_purge(alloc: Global) -> Result<History, AllocError>
 fn a_purge_is_durable_from_its_sync_on_and_logged_from_the_calls_past_the_event_before(
     rt: HostRuntime,
 ) -> Result<(), Fail> {
-    let history = history_of_a_purge(rt.alloc())?;
+    let history = history_over(rt.alloc(), [A, B], &PURGE)?;
+    assert!(rt; is_legal(rt.alloc(), &history, 1)?);
     // calls, with how much is synced and logged by them
     let rows = [
         (0, 0, 0),
@@ -97,6 +93,64 @@ fn a_purge_is_durable_from_its_sync_on_and_logged_from_the_calls_past_the_event_
         assert_eq!(rt; logged_by(&history, calls), logged, "{calls}");
     }
     assert_eq!(rt; history.events().len(), 8);
+    Ok(())
+}
+
+#[test]
+fn a_history_with_one_thing_changed_is_not_legal(rt: HostRuntime) -> Result<(), Fail> {
+    // the place of an event, and the event that stands there in place of its own
+    let rows = [
+        (3, (Act::Close { slot: 0 }, Reply::Closed, 2), true, "none"),
+        (
+            3,
+            (Act::Close { slot: 0 }, Reply::BadSlot, 2),
+            false,
+            "a reply that no row has",
+        ),
+        (
+            3,
+            (Act::Close { slot: 0 }, Reply::Closed, 1),
+            false,
+            "calls that fall",
+        ),
+        (
+            3,
+            (Act::Close { slot: 0 }, Reply::Closed, 3),
+            true,
+            "calls that rise",
+        ),
+    ];
+    for (place, event, wanted, what) in rows {
+        let mut events = PURGE;
+        events[place] = event;
+        let history = history_over(rt.alloc(), [A, B], &events)?;
+        assert_eq!(rt; is_legal(rt.alloc(), &history, 1)?, wanted, "{what}");
+    }
+    for (roots, wanted) in [([A, B], true), ([B, A], false), ([A, A], false)] {
+        let history = history_over(rt.alloc(), roots, &PURGE)?;
+        assert_eq!(rt; is_legal(rt.alloc(), &history, 1)?, wanted, "{roots:?}");
+    }
+    Ok(())
+}
+
+#[test]
+fn numbers_and_counts_of_faults_have_to_suffice(rt: HostRuntime) -> Result<(), Fail> {
+    let history = history_over(rt.alloc(), [A, B], &PURGE)?;
+    // the second sync writes an entry, and the third tries to
+    for (left, wanted) in [(2, true), (1, false), (0, false)] {
+        assert_eq!(rt;
+            is_legal(rt.alloc(), &history, (1 << 62) - left)?,
+            wanted,
+            "{left}"
+        );
+    }
+    for (first, last, wanted) in [(8, 9, true), (9, 9, false), (8, 8, false), (0, 12, true)] {
+        assert_eq!(rt;
+            is_caused(&history, first, last),
+            wanted,
+            "{first} to {last}"
+        );
+    }
     Ok(())
 }
 
@@ -154,83 +208,28 @@ const ROOMS: [(Act, Reply, u64); 17] = [
     (Act::Unmount, Reply::Stopped { fault: 7 }, 0),
 ];
 
-/// A core and a history with a blob of each version, before any event.
-fn volume_of_two(alloc: Global) -> Result<(Machine, History), AllocError>
-    ensures legal { IfOk result (λ v. Legal v.1 1 × All (λ e. e.calls ≡ 0) v.1.events) }
-    ensures core { IfOk result (λ v. (v.0.setting ≡ setting_of v.1)
-        × (v.0.state ≡ last_state v.1 1)) }
-{
+/// A history with a blob of each version, before any event.
+fn history_of_two(alloc: Global) -> Result<History, AllocError> {
     let setting = Setting {
         blocks: 779,
         nodes: 132,
         version: 2,
     };
-    let mut core = Machine::new(alloc, setting, 1);
-    core.map.insert(
-        A,
-        Blob {
-            size: LARGE,
-            version: 1,
-        },
-    )?;
-    core.map.insert(
-        B,
-        Blob {
-            size: LARGE,
-            version: 2,
-        },
-    )?;
     let mut opening = Vec::new(alloc);
     opening.push((A, LARGE, 1))?;
     opening.push((B, LARGE, 2))?;
-    Ok((core, History::new(alloc, setting, opening)))
-}
-
-/// An event that has to be a step of the core is noted.
-fn goes<R: Abort>(
-    rt: &R,
-    core: &mut Machine,
-    history: &mut History,
-    act: Act,
-    reply: Reply,
-) -> Result<(), AllocError>
-    requires spare { 1 ≤ history.old.spare }
-    requires legal { Legal history.old 1 × All (λ e. e.calls ≡ 0) history.old.events }
-    requires core { (core.old.setting ≡ setting_of history.old)
-        × (core.old.state ≡ last_state history.old 1) }
-    ensures spare { OnOk result (history.new.spare ≡ history.old.spare - 1) }
-    ensures legal { OnOk result (Legal history.new 1 × All (λ e. e.calls ≡ 0) history.new.events) }
-    ensures core { OnOk result ((core.new.setting ≡ setting_of history.new)
-        × (core.new.state ≡ last_state history.new 1)) }
-{
-    let who = Who {
-        session: 0,
-        line: 1,
-    };
-    let event = CoreEvent {
-        who,
-        act,
-        reply,
-        calls: 0,
-    };
-    assert!(rt; core.next() <= 1 << 62);
-    let is_step = step_of(core, &event)?;
-    if is_step {
-        history.note(event);
-        return Ok(());
-    }
-    panic!(rt; "{act:?} is no step with {reply:?}")
+    Ok(History::new(alloc, setting, opening))
 }
 
 #[test]
 fn the_room_counts_blobs_adds_and_purges_that_are_not_durable(rt: HostRuntime) -> Result<(), Fail> {
-    let (mut core, mut history) = volume_of_two(rt.alloc())?;
-    history.reserve(17)?;
+    let mut history = history_of_two(rt.alloc())?;
+    assert!(rt; is_legal(rt.alloc(), &history, 1)?);
     assert_eq!(rt; room_of(&history), 259);
-    for i in 0..ROOMS.len() {
-        let (act, reply, room) = ROOMS[i];
-        goes(&rt, &mut core, &mut history, act, reply)?;
-        assert_eq!(rt; room_of(&history), room, "event {i}");
+    for (i, (act, reply, room)) in ROOMS.iter().enumerate() {
+        note(&mut history, *act, *reply, 0)?;
+        assert!(rt; is_legal(rt.alloc(), &history, 1)?, "event {i}");
+        assert_eq!(rt; room_of(&history), *room, "event {i}");
     }
     Ok(())
 }
