@@ -15,8 +15,8 @@ use Rattle.spec_image.specs.Metadata.{Metadata}
 use Rattle.spec_image.specs.Window.{Verifies}
 use Rattle.spec_image.specs.Stored.{blocks_of, stored, fetched_bytes, fetched_path, AllVerify}
 use Rattle.spec_image.specs.WellFormed.{records_of}
-use Rattle.plain_image.specs.declared.plain_blobs.Volume.{Volume}
-use Rattle.plain_image.specs.declared.plain_chain.ChainedBlob.{ChainedBlob}
+use Rattle.plain_image.specs.declared.blobs.Volume.{Volume}
+use Rattle.plain_image.specs.declared.chain.ChainedBlob.{ChainedBlob}
 use Rattle.plain_image.specs.Plain.{IsVolume, blob_record}
 use Rattle.spec_image.specs.Volume.{metadata_of, blob_in, IsSound}
 

@@ -1,6 +1,6 @@
 -- What the plain replay finds, as values of the definitions.
 use Rattle.spec_record.specs.Entry.{Entry}
-use Rattle.plain_image.specs.declared.plain_replay.Accepted.{Accepted}
+use Rattle.plain_image.specs.declared.replay.Accepted.{Accepted}
 
 -- the entry that was accepted
 abbrev pub accepted_entry : Accepted → Entry

@@ -7,9 +7,9 @@ use Rattle.spec_image.specs.Chain.{BlobRecord}
 use Rattle.spec_image.specs.Metadata.{Metadata, metadata_in}
 use Rattle.spec_image.specs.Volume.{metadata_of}
 use Rattle.spec_image.specs.WellFormed.{records_of, is_well_formed}
-use Rattle.plain_image.specs.declared.plain_blobs.Volume.{Volume}
-use Rattle.plain_image.specs.declared.plain_chain.ChainedBlob.{ChainedBlob}
-use Rattle.plain_image.specs.declared.plain_metadata.MetadataBlocks.{MetadataBlocks}
+use Rattle.plain_image.specs.declared.blobs.Volume.{Volume}
+use Rattle.plain_image.specs.declared.chain.ChainedBlob.{ChainedBlob}
+use Rattle.plain_image.specs.declared.metadata.MetadataBlocks.{MetadataBlocks}
 
 -- what these metadata blocks say
 abbrev pub metadata_read : MetadataBlocks → Metadata

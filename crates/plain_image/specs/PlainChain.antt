@@ -8,8 +8,8 @@ use Rattle.spec_record.specs.declared.node_fault.NodeFault.{NodeFault}
 use Rattle.spec_record.specs.declared.node_fault.NodeFault.TheVariants as faults
 use Rattle.spec_record.specs.Node.{no_node}
 use Rattle.spec_image.specs.Chain.{Nodes, BlobRecord, ◌>>=◌, wants, lengths, check_extents, as_inode, follow, check_counts, first_extent}
-use Rattle.plain_image.specs.declared.plain_chain.ChainedBlob.{ChainedBlob}
-use Rattle.plain_image.specs.declared.plain_chain.Walked.{Walked}
+use Rattle.plain_image.specs.declared.chain.ChainedBlob.{ChainedBlob}
+use Rattle.plain_image.specs.declared.chain.Walked.{Walked}
 use Rattle.plain_image.specs.Plain.{blob_record}
 
 -- extents and nodes, or a fault

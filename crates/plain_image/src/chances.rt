@@ -10,8 +10,8 @@ ghost use Rattle.spec_image.specs.Chance.{placed_at, Accepts, SameSlots, NoChanc
 ghost use Rattle.spec_image.specs.Volume.{image_super};
 ghost use Rattle.plain_image.specs.Placed.{placed_entry, IsKnown};
 
-use crate::plain_metadata::{info_in, ring_of, super_of_block};
-use crate::plain_replay::{Accepted, replay_of};
+use crate::metadata::{info_in, ring_of, super_of_block};
+use crate::replay::{Accepted, replay_of};
 use spec_disk::{Block, Event, last_of, synced_of};
 use spec_record::{Geometry, Info, Super};
 use std::alloc::{AllocError, Global};

@@ -7,8 +7,8 @@ ghost use Rattle.spec_image.specs.Stored as S;
 ghost use Rattle.plain_image.specs.Plain.{blob_record};
 ghost use Rattle.plain_image.specs.Verifying.{blocks_in};
 
-use crate::plain_blobs::joined_bytes;
-use crate::plain_chain::ChainedBlob;
+use crate::blobs::joined_bytes;
+use crate::chain::ChainedBlob;
 use crate::verifying::{digests_at, index_above, part, rest, used_places};
 use bv_merkle::levels;
 use spec_disk::Block;

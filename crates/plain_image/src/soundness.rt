@@ -8,9 +8,9 @@ ghost use Rattle.spec_image.specs.Stored as S;
 ghost use Rattle.spec_image.specs.Volume.{IsSound};
 ghost use Rattle.plain_image.specs.Plain.{blob_record};
 
+use crate::blobs::{data_in, first_named, stored_from, volume_from};
+use crate::chain::ChainedBlob;
 use crate::fetching::fetched_path;
-use crate::plain_blobs::{data_in, first_named, stored_from, volume_from};
-use crate::plain_chain::ChainedBlob;
 use crate::verifying::{part, verifies, window_bytes};
 use bv_merkle::windows;
 use spec_disk::Block;

@@ -2,7 +2,7 @@
 use Rattle.std.proofs.Common.{map, ap, sym, ◌∙◌}
 use Rattle.std.proofs.lemmas.Result.{IfOk-weaker}
 use Rattle.plain_image.specs.Placed.{placed_entry}
-use Rattle.plain_image.proofs.PlainChanceLemmas.{accepts_none, accepts_read}
+use Rattle.plain_image.proofs.ChanceLemmas.{accepts_none, accepts_read}
 use Rattle.plain_image.proofs.chances.accepted_in.Goals as goal
 
 pub returns-in_default : goal.returns-in_default

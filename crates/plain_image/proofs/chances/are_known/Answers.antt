@@ -5,7 +5,7 @@ use Rattle.spec_disk.proofs.ProgramLemmas.{told_true, told_false, holds_at, fail
 use Rattle.spec_record.specs.Entry.{Entry}
 use Rattle.plain_image.specs.declared.chances.Placed.{Placed}
 use Rattle.plain_image.specs.Placed.{placed_entry, IsKnown}
-use Rattle.plain_image.proofs.PlainChanceLemmas.{Contains-read}
+use Rattle.plain_image.proofs.ChanceLemmas.{Contains-read}
 use Rattle.plain_image.proofs.chances.are_known.Goals as goal
 
 pub returns-then-not-is_known : goal.returns-then-not-is_known

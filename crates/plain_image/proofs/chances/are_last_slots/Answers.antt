@@ -3,7 +3,7 @@ use Rattle.std.proofs.Common.{◌≡◌, ◌+◌, ◌%◌, ℕ, ap, subst, ◌�
 use Rattle.spec_disk.specs.Disk.{block}
 use Rattle.spec_disk.proofs.ProgramLemmas.{holds_at, more_sectors}
 use Rattle.spec_record.specs.Geometry.{ring_slots, slot_at}
-use Rattle.plain_image.proofs.PlainChanceLemmas.{next_at}
+use Rattle.plain_image.proofs.ChanceLemmas.{next_at}
 use Rattle.plain_image.proofs.chances.are_last_slots.Goals as goal
 
 pub loop-ahead-preserved : goal.loop-ahead-preserved

@@ -3,7 +3,7 @@ use Rattle.std.proofs.Common.{◌≡◌, IfOk, map, sym, subst, ◌∙◌}
 use Rattle.spec_image.specs.Chance.{placed_at}
 use Rattle.spec_image.specs.Journal.{Journal}
 use Rattle.plain_image.specs.Placed.{placed_entry}
-use Rattle.plain_image.proofs.PlainMetadataLemmas.{journal_read}
+use Rattle.plain_image.proofs.MetadataLemmas.{journal_read}
 use Rattle.plain_image.proofs.chances.entries_in.Goals as goal
 
 pub returns : goal.returns

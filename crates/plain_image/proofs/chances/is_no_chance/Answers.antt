@@ -1,7 +1,7 @@
 -- The entries and the blocks that are compared are those of the definition.
 use Rattle.std.proofs.Common.{map, ap, sym, refl, ◌∙◌}
 use Rattle.plain_image.specs.Placed.{placed_entry}
-use Rattle.plain_image.proofs.PlainChanceLemmas.{reads_as, no_chance_read}
+use Rattle.plain_image.proofs.ChanceLemmas.{reads_as, no_chance_read}
 use Rattle.plain_image.proofs.chances.is_no_chance.Goals as goal
 
 pub returns : goal.returns

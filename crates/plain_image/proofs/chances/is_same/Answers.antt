@@ -1,7 +1,7 @@
 -- Both slots and both numbers are equal where the targets are compared.
 use Rattle.std.proofs.Common.{◌≡◌, sym, ◌∙◌}
 use Rattle.spec_record.proofs.TestLemmas.{equal}
-use Rattle.plain_image.proofs.PlainChanceLemmas.{same_entry}
+use Rattle.plain_image.proofs.ChanceLemmas.{same_entry}
 use Rattle.plain_image.proofs.chances.is_same.Goals.{then-a-b, else-a-b}
 use Rattle.plain_image.proofs.chances.is_same.Goals as goal
 

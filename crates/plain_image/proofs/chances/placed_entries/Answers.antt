@@ -7,7 +7,7 @@ use Rattle.spec_image.specs.Chance.{placed_from}
 use Rattle.spec_image.specs.Journal.{journal_with}
 use Rattle.plain_image.specs.Accepted.{accepted_entry}
 use Rattle.plain_image.specs.Placed.{placed_entry}
-use Rattle.plain_image.proofs.PlainChanceLemmas.{placed_more, placed_all}
+use Rattle.plain_image.proofs.ChanceLemmas.{placed_more, placed_all}
 use Rattle.plain_image.proofs.chances.placed_entries.Goals as goal
 
 pub loop-entry-preserved : goal.loop-entry-preserved

@@ -2,7 +2,7 @@ use Rattle.std.proofs.Common.{◌<◌, length, map}
 use Rattle.spec_image.specs.Journal.{journal_with}
 use Rattle.plain_image.specs.Accepted.{accepted_entry}
 use Rattle.plain_image.specs.Placed.{placed_entry}
-use Rattle.plain_image.proofs.PlainChanceLemmas.{ArePlaced}
+use Rattle.plain_image.proofs.ChanceLemmas.{ArePlaced}
 use Rattle.plain_image.proofs.chances.placed_entries.Given as goal
 
 -- the entries so far stand where they were placed

@@ -1,5 +1,5 @@
 use Rattle.std.proofs.Common.{◌≡◌, length, sym, ◌∙◌, rules}
-use Rattle.plain_image.proofs.PlainMetadataLemmas.{no_block}
+use Rattle.plain_image.proofs.MetadataLemmas.{no_block}
 use Rattle.plain_image.proofs.chances.super_of_image.Goals as goal
 
 pub returns-in_err-first-clause-value : goal.returns-in_err-first-clause-value

@@ -1,7 +1,7 @@
 -- The blob that was found is one of the image's metadata.
 use Rattle.spec_disk.proofs.ProgramLemmas.{told_false}
 use Rattle.plain_image.specs.Plain.{blob_record}
-use Rattle.plain_image.proofs.PlainBlobLemmas.{found_extents}
+use Rattle.plain_image.proofs.BlobLemmas.{found_extents}
 use Rattle.plain_image.proofs.SoundLemmas.{volume_at, named_in, sound_answer, sound_missing}
 use Rattle.plain_image.proofs.soundness.is_sound_from.Goals as goal
 
