@@ -1,9 +1,9 @@
 //! Histories, and what the calls that go over them say, against numbers worked out by hand.
 
-use crate::{is_caused, is_legal};
+use crate::{is_caused, is_legal, logged_of};
 use bv_model::{History, logged_by, room_of, synced_by};
-use spec_core::{Act, CoreEvent, Reply, Setting, Who};
-use spec_tree::Digest;
+use spec_core::{Act, CoreEvent, MapChange, Reply, Setting, Who};
+use spec_tree::{Blob, Digest};
 use std::alloc::{AllocError, Global};
 use std::process::Abort;
 use std::test::Fail;
@@ -92,7 +92,17 @@ fn a_purge_is_durable_from_its_sync_on_and_logged_from_the_calls_past_the_event_
         assert_eq!(rt; synced_by(&history, calls), synced, "{calls}");
         assert_eq!(rt; logged_by(&history, calls), logged, "{calls}");
     }
-    assert_eq!(rt; history.events().len(), 8);
+    let log = logged_of(rt.alloc(), &history)?;
+    let blob = Blob {
+        size: BLOCK,
+        version: 1,
+    };
+    let purges = [
+        MapChange::Purge { root: A, blob },
+        MapChange::Purge { root: B, blob },
+    ];
+    assert_eq!(rt; log.changes.as_slice(), purges.as_slice());
+    assert_eq!(rt; log.lengths.as_slice(), [0, 0, 0, 0, 1, 1, 2, 2].as_slice());
     Ok(())
 }
 

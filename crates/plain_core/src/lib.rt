@@ -6,6 +6,7 @@ mod changing;
 pub mod choosing;
 pub mod legality;
 mod less;
+mod logged;
 mod lookups;
 pub mod machine;
 mod purging;
@@ -14,7 +15,8 @@ pub mod step;
 pub use caused::is_caused;
 pub use choosing::is_chosen;
 pub use legality::is_legal;
-pub use machine::Machine;
+pub use logged::{Logged, logged_of};
+pub use machine::{Machine, opening_of};
 pub use step::step_of;
 
 #[cfg(test)]

@@ -38,8 +38,8 @@ impl Model for Machine {
     ghost view = { core_of };
 }
 
-/// The opening map of a history.
-fn opening_of(alloc: Global, h: &History) -> Result<BTreeMap<Digest, Blob>, AllocError>
+/// The opening map of a history, whose opening is in the order of the roots' bytes.
+pub fn opening_of(alloc: Global, h: &History) -> Result<BTreeMap<Digest, Blob>, AllocError>
     requires { IsStrictlySortedBy digest_cmp (keys_of (opening_map h.now)) }
     ensures { IfOk result (λ map. map.entries ≡ opening_map h.now) }
 {
