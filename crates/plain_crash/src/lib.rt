@@ -1,11 +1,17 @@
-//! Whether the events of a device time a history, as a plain program: one function a sentence.
+//! What a stop of the machine may leave, as slow, plain programs.
+//!
+//! Each program's contract is the definition of `spec_crash` that it computes.
 #![tactic(auto)]
 
 mod device_events;
+mod formatted;
 mod history_events;
+mod holding;
 pub mod timing;
 
+pub use formatted::is_left_by_format;
+pub use holding::holds_prefix;
 pub use timing::is_timed;
 
 #[cfg(test)]
-mod tests;
+mod timing_tests;

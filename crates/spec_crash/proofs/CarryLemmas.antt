@@ -48,7 +48,7 @@ lengths_within g s (e ∷ es) =
     All-cons (λ n. n ≤ length (state_after g (after g s e) es).log) (length (after g s e).log) (map (λ p. p.1) (lengths_from g (after g s e) es))
     (length-log_run g (after g s e) es) (lengths_within g (after g s e) es)
 
-log_length-within : (h : History) (k : ℕ) → IsLogLength h k → k ≤ length (log_of h)
+pub log_length-within : (h : History) (k : ℕ) → IsLogLength h k → k ≤ length (log_of h)
 log_length-within h k (inl none) = omega (arith, none)
 log_length-within h k (inr some) =
     All-contains (λ n. n ≤ length (log_of h)) (map (λ p. p.1) (log_lengths h)) k (lengths_within (setting_of h) (first_state (opening_map h) 0) h.events) some

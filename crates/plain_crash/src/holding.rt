@@ -1,0 +1,144 @@
+//! Whether an image holds what a stop after so many calls of the device may leave of a history.
+
+ghost use Rattle.std.specs.Prelude.{◌≡◌, ◌≤◌, ◌⊎◌, ◌↔◌, ℕ, [], ◌∷◌, length, All, Contains};
+ghost use Rattle.std.specs.Prelude.{IfOk, IsTrue, OnOk};
+ghost use Rattle.std.specs.List.Sorted.{IsStrictlySortedBy};
+ghost use Rattle.std.specs.Map.{keys_of};
+ghost use Rattle.spec_core.specs.History.{Legal, log_of, opening_map};
+ghost use Rattle.spec_core.specs.Log.{changed};
+ghost use Rattle.spec_crash.specs.Crash as C;
+ghost use Rattle.spec_image.specs.Volume.{IsWhole};
+ghost use Rattle.spec_tree.specs.Order.{digest_cmp};
+ghost use Rattle.plain_crash.specs.Holding.{IsLogOf, IsMapAt, IsLeftAt};
+
+use bv_model::{History, logged_by, synced_by};
+use plain_core::{Logged, logged_of, opening_of};
+use plain_image::{blobs_from, is_whole_from};
+use spec_core::MapChange;
+use spec_disk::Block;
+use spec_tree::{Blob, Digest};
+use std::alloc::{AllocError, Global};
+use std::collections::BTreeMap;
+
+/// Whether each of these blobs is whole in an image.
+fn are_whole(
+    alloc: Global,
+    image: &[Block],
+    held: &BTreeMap<Digest, Blob>,
+) -> Result<bool, AllocError>
+    ensures { IfOk result (λ yes.
+        IsTrue yes ↔ All (λ entry. IsWhole image.now entry.0) held.now.entries) }
+{
+    for (root, _) in held {
+        if !is_whole_from(alloc, image, *root)? {
+            return Ok(false);
+        }
+    }
+    Ok(true)
+}
+
+/// Makes one change of the log in a map of blobs.
+fn make_change(map: &mut BTreeMap<Digest, Blob>, change: &MapChange) -> Result<(), AllocError>
+    ensures { OnOk result (map.new.entries ≡ changed map.old.entries (change.now ∷ [])) }
+{
+    match change {
+        MapChange::Publish { root, blob } => {
+            map.insert(*root, *blob)?;
+        }
+        MapChange::Purge { root, .. } => {
+            map.remove(root);
+        }
+    }
+    Ok(())
+}
+
+/// The opening map of a history changed by the first `count` changes of its log.
+fn map_after(
+    alloc: Global,
+    h: &History,
+    log: &[MapChange],
+    count: usize,
+) -> Result<BTreeMap<Digest, Blob>, AllocError>
+    requires sorted { IsStrictlySortedBy digest_cmp (keys_of (opening_map h.now)) }
+    requires log { log.now ≡ log_of h.now }
+    requires count { count ≤ length log.now }
+    ensures { IfOk result (λ map. map.entries ≡ C.map_after h.now count) }
+{
+    let mut map = opening_of(alloc, h)?;
+    for change in &log[..count] {
+        make_change(&mut map, change)?;
+    }
+    Ok(map)
+}
+
+/// Whether a count is 0 or one of these lengths.
+fn is_boundary(lengths: &[u64], count: u64) -> bool
+    ensures { IsTrue result ↔ ((count ≡ 0) ⊎ Contains lengths.now count) }
+{
+    count == 0 || lengths.contains(&count)
+}
+
+/// Whether these are the blobs after the first `count` changes, which have each event's changes
+/// whole or not at all.
+fn is_map_at(
+    alloc: Global,
+    h: &History,
+    logged: &Logged,
+    count: usize,
+    held: &BTreeMap<Digest, Blob>,
+) -> Result<bool, AllocError>
+    requires sorted { IsStrictlySortedBy digest_cmp (keys_of (opening_map h.now)) }
+    requires logged { IsLogOf h.now logged.now }
+    requires count { count ≤ length (log_of h.now) }
+    ensures { IfOk result (λ yes. IsTrue yes ↔ IsMapAt h.now held.now.entries count) }
+{
+    if !is_boundary(&logged.lengths, count as u64) {
+        return Ok(false);
+    }
+    let map = map_after(alloc, h, &logged.changes, count)?;
+    Ok(map == *held)
+}
+
+/// Whether a stop after so many calls of the device may leave these blobs.
+fn is_left(
+    alloc: Global,
+    h: &History,
+    calls: u64,
+    held: &BTreeMap<Digest, Blob>,
+) -> Result<bool, AllocError>
+    requires legal { (next : ℕ) × Legal h.now next }
+    ensures { IfOk result (λ yes.
+        IsTrue yes ↔ ((count : ℕ) × IsLeftAt h.now calls held.now.entries count)) }
+{
+    let least = synced_by(h, calls);
+    let most = logged_by(h, calls);
+    let logged = logged_of(alloc, h)?;
+    for count in 0..logged.changes.len() + 1 {
+        let is_within = least <= count as u64 && count as u64 <= most;
+        if is_within && is_map_at(alloc, h, &logged, count, held)? {
+            return Ok(true);
+        }
+    }
+    Ok(false)
+}
+
+/// Whether an image holds a prefix of a history's log that a stop after so many calls of the
+/// device may leave: all that was durable by then, none that wasn't yet logged, no part of an
+/// event's changes, and each blob whole.
+pub fn holds_prefix(
+    alloc: Global,
+    h: &History,
+    calls: u64,
+    image: &[Block],
+) -> Result<bool, AllocError>
+    requires legal { (next : ℕ) × Legal h.now next }
+    ensures { IfOk result (λ yes. IsTrue yes ↔ C.HoldsPrefix h.now calls image.now) }
+{
+    let Some(held) = blobs_from(alloc, image)? else {
+        return Ok(false);
+    };
+    if !are_whole(alloc, image, &held)? {
+        return Ok(false);
+    }
+    is_left(alloc, h, calls, &held)
+}
