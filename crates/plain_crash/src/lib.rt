@@ -14,4 +14,6 @@ pub use holding::holds_prefix;
 pub use timing::is_timed;
 
 #[cfg(test)]
+mod tests;
+#[cfg(test)]
 mod timing_tests;
