@@ -29,33 +29,62 @@ const GEOMETRY: Geometry = Geometry {
     version: 1,
 };
 
-/// The acts, replies and calls of a history.
-type Events<'a> = &'a [(Act, Reply, u64)];
+/// The act, reply and calls of an event.
+type Told = (Act, Reply, u64);
 
-/// The blob without bytes is added, and then synced.
-const ADDED: [(Act, Reply, u64); 4] = [
-    (
-        Act::Begin {
-            root: EMPTY,
-            size: 0,
-        },
-        Reply::Granted,
-        0,
-    ),
-    (Act::Admit { root: EMPTY }, Reply::Admitted, 0),
-    (Act::Settle { root: EMPTY }, Reply::Published, 3),
-    (Act::Sync, Reply::Synced, 5),
-];
+const BEGIN: Told = (
+    Act::Begin {
+        root: EMPTY,
+        size: 0,
+    },
+    Reply::Granted,
+    0,
+);
 
-/// Two blobs are unlinked, and a sync purges both.
-const PURGED: [(Act, Reply, u64); 3] = [
+const ADMIT: Told = (Act::Admit { root: EMPTY }, Reply::Admitted, 0);
+
+const SETTLE: Told = (Act::Settle { root: EMPTY }, Reply::Published, 3);
+
+/// The blob without bytes is added.
+const ADDED: [Told; 3] = [BEGIN, ADMIT, SETTLE];
+
+/// The same, and a sync.
+const SYNCED: [Told; 4] = [BEGIN, ADMIT, SETTLE, (Act::Sync, Reply::Synced, 5)];
+
+/// Two blobs are unlinked, and one sync purges both.
+const PURGED: [Told; 3] = [
     (Act::Unlink { root: OTHER }, Reply::Unlinked, 0),
     (Act::Unlink { root: EMPTY }, Reply::Unlinked, 0),
     (Act::Sync, Reply::Synced, 2),
 ];
 
+/// The opening, the events, after how many calls, the image's blob, and whether it holds.
+struct Row(
+    &'static [Digest],
+    &'static [Told],
+    u64,
+    Option<Digest>,
+    bool,
+);
+
+const ROWS: [Row; 13] = [
+    Row(&[], &[], 0, None, true),
+    Row(&[], &[], 0, Some(EMPTY), false),
+    Row(&[EMPTY], &[], 0, None, false),
+    Row(&[EMPTY], &[], 0, Some(EMPTY), true),
+    Row(&[OTHER], &[], 0, Some(OTHER), false),
+    Row(&[], &ADDED, 0, Some(EMPTY), false),
+    Row(&[], &ADDED, 3, None, true),
+    Row(&[], &ADDED, 3, Some(EMPTY), true),
+    Row(&[], &SYNCED, 4, None, true),
+    Row(&[], &SYNCED, 5, None, false),
+    Row(&[], &SYNCED, 5, Some(EMPTY), true),
+    Row(&[OTHER, EMPTY], &PURGED, 1, None, true),
+    Row(&[OTHER, EMPTY], &PURGED, 1, Some(EMPTY), false),
+];
+
 /// The history of a mount that began with these blobs, each without bytes.
-fn history_of(alloc: Global, opening: &[Digest], events: Events) -> Result<History, AllocError> {
+fn history_of(alloc: Global, opening: &[Digest], events: &[Told]) -> Result<History, AllocError> {
     let setting = Setting {
         blocks: GEOMETRY.blocks,
         nodes: GEOMETRY.nodes,
@@ -134,31 +163,13 @@ fn an_image_holds_what_was_durable_and_at_most_what_was_logged(
     rt: HostRuntime,
 ) -> Result<(), Fail> {
     let alloc = rt.alloc();
-    let none: Events = &[];
-    let both = [OTHER, EMPTY];
-    // the opening, the events, after how many calls, the image's blob, and whether it holds
-    let rows = [
-        ([].as_slice(), none, 0, None, true),
-        ([].as_slice(), none, 0, Some(EMPTY), false),
-        (&both[1..], none, 0, None, false),
-        (&both[1..], none, 0, Some(EMPTY), true),
-        (&both[..1], none, 0, Some(OTHER), false),
-        ([].as_slice(), &ADDED[..3], 0, Some(EMPTY), false),
-        ([].as_slice(), &ADDED[..3], 3, None, true),
-        ([].as_slice(), &ADDED[..3], 3, Some(EMPTY), true),
-        ([].as_slice(), ADDED.as_slice(), 4, None, true),
-        ([].as_slice(), ADDED.as_slice(), 5, None, false),
-        ([].as_slice(), ADDED.as_slice(), 5, Some(EMPTY), true),
-        (both.as_slice(), PURGED.as_slice(), 1, None, true),
-        (both.as_slice(), PURGED.as_slice(), 1, Some(EMPTY), false),
-    ];
-    for (row, (opening, events, calls, root, wanted)) in rows.into_iter().enumerate() {
+    for (at, Row(opening, events, calls, root, wanted)) in ROWS.iter().enumerate() {
         let history = history_of(alloc, opening, events)?;
-        let image = image_with(alloc, root)?;
+        let image = image_with(alloc, *root)?;
         assert_eq!(rt;
-            holds(alloc, &history, calls, &image)?,
-            Some(wanted),
-            "row {row}"
+            holds(alloc, &history, *calls, &image)?,
+            Some(*wanted),
+            "row {at}"
         );
     }
     Ok(())
