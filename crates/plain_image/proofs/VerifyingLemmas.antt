@@ -1,4 +1,4 @@
--- The numbers of digests of a level fit, and the parts of a window that verifies.
+-- The place of a block above a window is small, and a path whose blocks were tested one after another.
 use Rattle.std.proofs.Common.{◌≡◌, ◌↔◌, IsTrue, Bool, ℕ, ◌+◌, ◌-◌, ◌*◌, ◌/◌, ◌^◌, ◌<◌, ◌≤◌, List, length, take, drop, get_or, replicate, All, ap, sym, ◌∙◌, subst, arith}
 use Rattle.std.proofs.Math.Nat.{div-lt_iff_lt-mul, one-le-pow, pow-le-pow_right}
 use Rattle.std.proofs.lemmas.List.{get_or-map, take_all, drop-replicate, length-map}
