@@ -9,7 +9,7 @@ use std::alloc::{AllocError, Global};
 use std::marker::Model;
 
 /// The events of a mount, and what it began with: the blobs of the opening map as root, size and
-/// version, in the order of the roots' bytes. Contracts see `opening`, `blocks`, `nodes`,
+/// version, which a legal history has in the order of the roots' bytes. Contracts see `opening`, `blocks`, `nodes`,
 /// `version`, `events`, and `spare`, the number of events that it has room for.
 #[derive(Drop)]
 pub struct History {
@@ -49,7 +49,7 @@ impl History {
         }
     }
 
-    /// The opening map, in the order of the roots' bytes.
+    /// The opening map: root, size and version of each blob.
     pub fn opening(&self) -> &[(Digest, u64, u32)]
         ensures { result.now ≡ self.now.opening }
     {

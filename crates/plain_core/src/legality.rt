@@ -41,8 +41,7 @@ fn never_falls(events: &[CoreEvent]) -> bool
     true
 }
 
-/// Whether these events are Steps one after another. The core moves by those before the first that
-/// isn't one.
+/// Whether these events are Steps one after another.
 fn are_steps(core: &mut Machine, events: &[CoreEvent]) -> Result<bool, AllocError>
     requires { core.old.state.next ≤ 2 ^ 62 }
     ensures { IfOk result (λ yes.

@@ -29,7 +29,8 @@ pub record HoldsWhole (j : Blocks) (held : List (Digest × Blob)) : Type 0 where
   pub whole : All (λ entry. IsWhole j entry.0) held
 
 -- after so many events of the device, the image has the blobs after some first changes of the log:
--- all that a sync made durable by then, and none that wasn't yet logged
+-- all that a sync made durable by then, none that wasn't yet logged, and of each event's changes all
+-- or none
 pub record HoldsPrefix (h : History) (calls : ℕ) (j : Blocks) : Type 0 where
   pub count : ℕ
   pub durable : synced_by h calls ≤ count

@@ -54,13 +54,14 @@ IsWritten e = IsPut e.act × (e.reply ≡ replies.Written)
 abbrev pub RisesInCalls : History → Type 0
 RisesInCalls h = FromEachToNext (λ old new. old.calls < new.calls → MayCall new.act) h.events
 
--- A put that replied `written` raises calls by one, and calls is then the place of an Ok write.
+-- From event to event, a put that replied `written` raises calls by one; calls is then the place of
+-- an Ok write.
 pub record PutsWrite (events : List Event) (h : History) : Type 0 where
   pub one : FromEachToNext (λ old new. IsWritten new → new.calls ≡ old.calls + 1) h.events
   pub written : All (λ e. IsWritten e → IsSomeAnd (event_at events e.calls) IsOkWrite) h.events
 
--- An event that replied `synced` or `unmounted` raises calls, and calls is then the place of an Ok
--- sync: it ends with a sync of its own.
+-- From event to event, one that replied `synced` or `unmounted` raises calls, and calls is then the
+-- place of an Ok sync: it ends with a sync of its own.
 pub record RepliesSync (events : List Event) (h : History) : Type 0 where
   pub own : SyncsInCalls h
   pub synced : All
