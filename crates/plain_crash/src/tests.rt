@@ -133,7 +133,8 @@ fn put(image: &mut [Block], at: usize, offset: usize, bytes: &[u8]) {
 /// The image of a new volume, with a blob without bytes of this name, where one is given.
 fn image_with(alloc: Global, root: Option<Digest>) -> Result<Vec<Block>, AllocError> {
     let mut dev = MemDevice::new(alloc, 83)?;
-    let _ = format(&mut dev, GEOMETRY);
+    // it fails only for want of memory for the device's trace
+    format(&mut dev, GEOMETRY).map_err(|_| AllocError)?;
     let mut image = blocks_of(alloc, &mut dev)?;
     if let Some(root) = root {
         put(&mut image, 0, 64, &[1]);
