@@ -8,6 +8,7 @@ use Rattle.std.specs.BTreeSet.{insert_key}
 use Rattle.std.specs.Map.{remove_entry, keys_of}
 use Rattle.std.specs.Set.{remove_key}
 use Rattle.std.specs.Ordering.{eq_by_cmp}
+use Rattle.std.proofs.lemmas.Bool.Decides.{nat_tests}
 use Rattle.std.proofs.lemmas.Map.{lookup-none}
 use Rattle.std.proofs.lemmas.Map.Entries.{none_past_head}
 use Rattle.std.proofs.lemmas.Map.Keys.{IsDistinct-from_sorted, IsDistinct-tail}
@@ -114,12 +115,13 @@ find-purged_none from m rs r s none = go (find (changed m (purges from rs)) r) r
 
 -- ---- what the replies tell
 
-granted : (o : Option ℕ) (a b c d : Bool) (h need room : ℕ) → Chosen (unless_stopped o (cond a (Only Exists) (cond b (Only (Leaving h)) (cond c (Only InFlight) (cond d (Only (NoSpace need room)) (Only Granted)))))) Granted → (a ≡ false) × (b ≡ false) × (c ≡ false)
+granted : (o : Option ℕ) (a b c d : Bool) (h need room : ℕ) → Chosen (unless_stopped o (cond a (Only Exists) (cond b (Only (Leaving h)) (cond c (Only InFlight) (cond d (Only (NoSpace need room)) (Only Granted)))))) Granted → (a ≡ false) × (b ≡ false) × (c ≡ false) × (d ≡ false)
 granted (Some f) a b c d h need room k = cc
 granted None true b c d h need room k = cc
 granted None false true c d h need room k = cc
 granted None false false true d h need room k = cc
-granted None false false false d h need room k = (refl, refl, refl)
+granted None false false false true h need room k = cc
+granted None false false false false h need room k = (refl, refl, refl, refl)
 
 nothing : {X : Type 0} (o : Option X) → is_some o ≡ false → o ≡ None
 nothing None h = refl
@@ -129,11 +131,17 @@ not_present : (b : Bool) (o : Option Blob) → is_some (cond b None o) ≡ false
 not_present true o h e = cc
 not_present false o h e = nothing o h
 
--- an add that is granted is new
-pub granted_new : (g : Setting) (s : State) (w : Who) (r : Digest) (n : ℕ) → Chosen (choice g s w (Begin r n)) Granted → (find s.map r ≡ None) × (find s.adds r ≡ None)
-granted_new g s w r n c =
-    let k = granted s.stopped (is_some (present s r)) (is_unlinked s r) (is_some (find s.adds r)) (nat_lt (room_in g s) (need_of g.version n)) (holders s.slots r) (need_of g.version n) (room_in g s) c in
-    (not_present (is_unlinked s r) (find s.map r) k.0 k.1, nothing (find s.adds r) k.2)
+module _ (g : Setting) (s : State) (w : Who) (r : Digest) (n : ℕ) (c : Chosen (choice g s w (Begin r n)) Granted) where
+  told : (is_some (present s r) ≡ false) × (is_unlinked s r ≡ false) × (is_some (find s.adds r) ≡ false) × (nat_lt (room_in g s) (need_of g.version n) ≡ false)
+  told = granted s.stopped (is_some (present s r)) (is_unlinked s r) (is_some (find s.adds r)) (nat_lt (room_in g s) (need_of g.version n)) (holders s.slots r) (need_of g.version n) (room_in g s) c
+
+  -- an add that is granted is new
+  pub granted_new : (find s.map r ≡ None) × (find s.adds r ≡ None)
+  granted_new = (not_present (is_unlinked s r) (find s.map r) told.0 told.1, nothing (find s.adds r) told.2)
+
+  -- and there is room for it
+  pub granted_fits : need_of g.version n ≤ room_in g s
+  granted_fits = let fits = told.3 in grind (arith, nat_tests)
 
 added : (o : Option ℕ) (c : Choice) (q : Reply) → Chosen (if_added o (λ n. c)) q → is_some o ≡ true
 added None c q h = absurd h

@@ -1,5 +1,6 @@
 pub mod Adds
 pub mod Durable
+pub mod Exact
 pub mod Flush
 pub mod Knowing
 pub mod Lengths

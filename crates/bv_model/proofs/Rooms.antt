@@ -242,7 +242,7 @@ taken_unmount g s t w (DeviceFault f) need k d o c =
     taken_failed g (slots_emptied s) (all_let_go t) (taken_slots_emptied g s t k) [] f (tabled_slots_emptied s d) (once_slots_emptied s o) (unmount_went (is_empty s.adds) s.stopped (sync_choice s (s.queue ++ s.leaving) Unmounted) (DeviceFault f) (λ f e. cc) c) refl
 taken_unmount g s t w _ need k d o c = taken_slots_emptied g s t k
 
-taken_change : (g : Setting) (s : State) (t : Taken) (w : Who) (a : Act) (q : Reply) (need : ℕ) → TakenOf g s t → Tabled s → Once s → NeedsOf g s w a q need → Chosen (choice g s w a) q
+pub taken_change : (g : Setting) (s : State) (t : Taken) (w : Who) (a : Act) (q : Reply) (need : ℕ) → TakenOf g s t → Tabled s → Once s → NeedsOf g s w a q need → Chosen (choice g s w a) q
     → TakenOf g (change g s w a q) (taken_next t (standing_for s (deed_of w a q)) need w a q)
 taken_change g s t w (Begin r n) q need k d o e c = taken_begun g s t k w r n q need e c
 taken_change g s t w (Admit r) q need k d o e c = taken_admitted g s t k w r q need e

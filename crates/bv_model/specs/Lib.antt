@@ -1,4 +1,5 @@
--- What the calls that go over a history find in it, step by step.
+-- What the calls that go over a history find in it, step by step, and what its room means.
 pub mod Kept
+pub mod Laws
 pub mod Rescan
 pub mod Taking

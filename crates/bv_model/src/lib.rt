@@ -7,6 +7,7 @@
 mod adding;
 mod deed;
 pub mod history;
+pub mod laws;
 mod nodes;
 pub mod rescan;
 pub mod room;
