@@ -4,6 +4,7 @@ pub mod EntryLemmas
 pub mod Histories
 pub mod Holding
 pub mod Logs
+pub mod Nodes
 pub mod Numbers
 pub mod Once
 pub mod Replies

@@ -1,5 +1,5 @@
 -- A root is queued or leaves at most once, and only while it is in the map.
-use Rattle.std.proofs.Common.{◌≡◌, ℕ, ◌+◌, ◌-◌, ◌≤◌, ◌<◌, ◌==◌, Bool, true, false, cond, not, is_some, ◌&&◌, ◌||◌, Option, Some, None, List, [], ◌∷◌, ◌++◌, length, length-append, get_or, refl, ap, sym, ◌∙◌, arith}
+use Rattle.std.proofs.Common.{◌≡◌, ℕ, ◌+◌, ◌≤◌, Bool, true, false, cond, not, is_some, ◌&&◌, ◌||◌, Option, Some, None, List, [], ◌∷◌, ◌++◌, length, refl, ap, ◌∙◌, arith}
 use Rattle.std.specs.Cmp.{eq_by_cmp_equiv}
 use Rattle.std.specs.List.{count_by}
 use Rattle.std.specs.BTreeMap.{is_at}
@@ -9,35 +9,28 @@ use Rattle.std.specs.Set.{remove_key}
 use Rattle.std.proofs.Math.Bool.{or-true}
 use Rattle.std.proofs.lemmas.List.Folds.{list_any-append}
 use Rattle.std.proofs.lemmas.List.Sums.{sum_by-append}
-use Rattle.std.proofs.lemmas.Map.Made.{length-remove_key}
 use Rattle.spec_tree.specs.declared.Digest.{Digest}
 use Rattle.spec_tree.specs.declared.blob.Blob.{Blob}
 use Rattle.spec_tree.specs.Order.{digest_cmp, same_digest}
-use Rattle.spec_core.proofs.Counting.{count-cons, count-insert_key-le, count-remove_key, length-insert_key, any-insert_key, not_among}
-use Rattle.spec_core.proofs.Deeds.{by_deed, alike, Alike, ready, deed_stopped, Ready, failing, was_going, its_deed}
+use Rattle.spec_core.proofs.Counting.{count-cons, count-insert_key-le, count-remove_key, any-insert_key, not_among}
+use Rattle.spec_core.proofs.Deeds.{by_deed, alike, ready, Ready, its_deed}
 use Rattle.spec_core.proofs.EntryLemmas.{lookup-insert_entry, lookup-remove_other}
 use Rattle.spec_core.proofs.Holding.{digest_total, one_digest, changed-append, find-purges, same_self}
-use Rattle.spec_core.specs.Change.{change, let_go, emptied, unlinked, slots_emptied}
-use Rattle.spec_core.specs.Choice.{choice}
+use Rattle.spec_core.specs.Change.{let_go, emptied, unlinked, slots_emptied}
 use Rattle.spec_core.specs.History.{History, setting_of, opening_map, first_state, last_state, Legal}
 use Rattle.spec_core.specs.Laws.{UnlinkedRootsLeave, UnlinkedRootsStay, QueueIsPurged}
 use Rattle.spec_core.specs.Log.{changed, purges, purge_of, without, queued, flushed}
 use Rattle.spec_core.specs.Order.{place_cmp}
-use Rattle.spec_core.specs.Deeds.{deed_of, fails, published_by}
-use Rattle.spec_core.specs.State.{State, find, among, held, holders, is_held, is_unlinked}
-use Rattle.spec_core.specs.Step.{Chosen, Fits, after, state_after, Steps}
-use Rattle.spec_core.specs.declared.act.Act.{Act}
+use Rattle.spec_core.specs.State.{State, find, among, held, is_held, is_unlinked}
+use Rattle.spec_core.specs.Step.{Fits, after, state_after, Steps}
 use Rattle.spec_core.specs.declared.act.Act.TheVariants.{Unlink}
 use Rattle.spec_core.specs.declared.deed.Deed.{Deed}
 use Rattle.spec_core.specs.declared.deed.Deed.TheVariants.{Nothing, Opens, Closes, Unlinks, Publishes, Purges, Empties}
 use Rattle.spec_core.specs.declared.event.CoreEvent.{CoreEvent}
-use Rattle.spec_core.specs.declared.map_change.MapChange.{MapChange}
 use Rattle.spec_core.specs.declared.map_change.MapChange.TheVariants.{Publish}
 use Rattle.spec_core.specs.declared.place.Place.{Place}
-use Rattle.spec_core.specs.declared.reply.Reply.{Reply}
 use Rattle.spec_core.specs.declared.reply.Reply.TheVariants.{Unlinked}
 use Rattle.spec_core.specs.declared.setting.Setting.{Setting}
-use Rattle.spec_core.specs.declared.who.Who.{Who}
 
 abbrev pub times : Digest → List Digest → ℕ
 times r roots = count_by (same_digest r) roots

@@ -4,8 +4,9 @@ use Rattle.std.specs.List.{count_by}
 use Rattle.spec_tree.specs.declared.Digest.{Digest}
 use Rattle.spec_tree.specs.Order.{same_digest}
 use Rattle.spec_core.specs.Choice.{choice, is_empty, place_of}
-use Rattle.spec_core.specs.History.{History, opening_map, last_state, room, Legal, FromEachToNext}
+use Rattle.spec_core.specs.History.{History, setting_of, opening_map, last_state, room, worst_sum, Legal, FromEachToNext}
 use Rattle.spec_core.specs.Log.{changed, queued}
+use Rattle.spec_core.specs.Room.{worst_sum_in}
 use Rattle.spec_core.specs.State.{State, find, held, among, is_held, is_unlinked}
 use Rattle.spec_core.specs.Step.{Chosen, Fits, Step, after}
 use Rattle.spec_core.specs.Synced.{log_lengths, synced_by, logged_by, SyncsInCalls, fault_of}
@@ -14,7 +15,7 @@ use Rattle.spec_core.specs.declared.act.Act.TheVariants.{Admit, Settle, Close, U
 use Rattle.spec_core.specs.declared.event.CoreEvent.{CoreEvent}
 use Rattle.spec_core.specs.declared.place.Place.{Place}
 use Rattle.spec_core.specs.declared.reply.Reply.{Reply}
-use Rattle.spec_core.specs.declared.reply.Reply.TheVariants.{Unlinked}
+use Rattle.spec_core.specs.declared.reply.Reply.TheVariants.{NoNodes, Unlinked}
 use Rattle.spec_core.specs.declared.setting.Setting.{Setting}
 use Rattle.spec_core.specs.declared.who.Who.{Who}
 
@@ -53,11 +54,25 @@ SomeReply =
     → (reply : Reply) × (new : State)
     × Step g s (record { who = who; act = act; reply = reply; calls = calls }) new
 
+-- an admit replies no-nodes only where the most nodes of the blobs of the map and of all adds are
+-- more than there are
+abbrev pub NoNodesIsPastWorst : Type 0
+NoNodesIsPastWorst =
+    (g : Setting) (s : State) (who : Who) (r : Digest) (need free : ℕ)
+    → Chosen (choice g s who (Admit r)) (NoNodes need free) → g.nodes < worst_sum_in g s
+
 -- ---- histories
 
 -- the room is at least 0 and at most all blocks but block 0
 abbrev pub RoomIsBounded : Type 0
 RoomIsBounded = (h : History) → (0 ≤ room h) × (room h ≤ h.blocks - 1)
+
+-- an admit after a history replies no-nodes only where the worst sum is more than the nodes
+abbrev pub WorstSumIsPassed : Type 0
+WorstSumIsPassed =
+    (h : History) (next : ℕ) (who : Who) (r : Digest) (need free : ℕ)
+    → Chosen (choice (setting_of h) (last_state h next) who (Admit r)) (NoNodes need free)
+    → h.nodes < worst_sum h
 
 -- the number of the first entry has a part only in the number of the next one
 abbrev pub NumbersAreApart : Type 0

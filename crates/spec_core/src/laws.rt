@@ -1,6 +1,6 @@
 //! Laws of the core: what each function here ensures holds of all states and histories.
 
-ghost use Rattle.spec_core.specs.Laws.{OneNewState, OneReply, SomeReply, RoomIsBounded, NumbersAreApart, LogMakesMap, HeldRootsStay, UnlinkedRootsLeave, UnlinkedRootsStay, QueueIsPurged, SlotsStay, SyncedIsLogged};
+ghost use Rattle.spec_core.specs.Laws.{OneNewState, OneReply, SomeReply, NoNodesIsPastWorst, RoomIsBounded, WorstSumIsPassed, NumbersAreApart, LogMakesMap, HeldRootsStay, UnlinkedRootsLeave, UnlinkedRootsStay, QueueIsPurged, SlotsStay, SyncedIsLogged};
 
 /// With the reply given, an event leads to one new state.
 pub fn a_reply_fixes_the_new_state()
@@ -18,12 +18,24 @@ pub fn some_reply_is_a_step()
     ensures { SomeReply }
 {}
 
+/// An admit is refused for want of nodes only where the most nodes of the map's blobs and of all adds
+/// are more than there are.
+pub fn no_nodes_comes_only_past_the_worst_case()
+    ensures { NoNodesIsPastWorst }
+{}
+
 /// The room is between 0 and all blocks but one.
 pub fn the_room_is_bounded()
     ensures { RoomIsBounded }
 {}
 
-/// The numbers of entries change nothing else.
+/// After a history an admit is refused for want of nodes only where the worst sum is more than the
+/// nodes.
+pub fn no_nodes_follows_a_history_only_past_its_worst_sum()
+    ensures { WorstSumIsPassed }
+{}
+
+/// With the replies given, the numbers of entries change nothing else of the state.
 pub fn numbers_of_entries_are_apart()
     ensures { NumbersAreApart }
 {}
