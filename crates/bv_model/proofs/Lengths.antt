@@ -10,7 +10,8 @@ use Rattle.spec_core.proofs.Counting.{length-insert_key}
 use Rattle.spec_core.proofs.Deeds.{by_deed, alike, Alike, ready, deed_stopped, Ready, failing, was_going, its_deed}
 use Rattle.spec_core.proofs.Holding.{same_self}
 use Rattle.spec_core.proofs.Once.{Once, once_by_deed, once_first, once_run, once_slots_emptied, length-queued}
-use Rattle.bv_model.proofs.Rescans.{is_held_by_count, less, holders_less, fits_at, steps_to, state_more}
+use Rattle.spec_core.proofs.Leaving.{is_held_by_count, less, holders_less}
+use Rattle.bv_model.proofs.Rescans.{fits_at, steps_to, state_more}
 use Rattle.spec_core.specs.Change.{change, emptied, unlinked, slots_emptied}
 use Rattle.spec_core.specs.Choice.{choice}
 use Rattle.spec_core.specs.History.{History, setting_of, opening_map, first_state, Legal}

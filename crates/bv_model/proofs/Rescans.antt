@@ -10,11 +10,12 @@ use Rattle.std.specs.Set.{remove_key}
 use Rattle.std.proofs.lemmas.List.{take_all, take_more, take-append-drop}
 use Rattle.spec_tree.specs.declared.Digest.{Digest}
 use Rattle.spec_tree.specs.Order.{digest_cmp, same_digest}
-use Rattle.spec_core.proofs.Counting.{any-count, not_among, count-insert_entry, count-remove_entry, count-remove_entry-le, none-counted, none-left, count-insert_key-le, count-remove_key, any-insert_key, any-remove_other}
+use Rattle.spec_core.proofs.Counting.{not_among, count-insert_entry, count-remove_entry-le, none-counted, none-left, count-insert_key-le, count-remove_key, any-insert_key}
 use Rattle.spec_core.proofs.Deeds.{by_deed, alike, its_deed, ready, Ready}
 use Rattle.spec_core.proofs.EntryLemmas.{lookup-insert_entry, lookup-remove_other}
 use Rattle.spec_core.proofs.Histories.{state_after-push, Steps-front, Steps-pop}
-use Rattle.spec_core.proofs.Holding.{one_digest, same_self}
+use Rattle.spec_core.proofs.Holding.{one_digest}
+use Rattle.spec_core.proofs.Leaving.{is_held_by_count, less, holders_less, leaving_let_go}
 use Rattle.spec_core.proofs.Slots.{place_total, one_place, let_go_slots}
 use Rattle.spec_core.specs.Change.{let_go, emptied, unlinked}
 use Rattle.spec_core.specs.History.{History, setting_of, opening_map, first_state, last_state, Legal}
@@ -82,57 +83,12 @@ held_by_deed g s (Empties false) p t = refl
 
 -- ---- how a root stands
 
--- one slot less
-module _ (s : State) (p : Place) (x : Digest) (was : held s.slots p ≡ Some x) where
-  abbrev pub less : State
-  less = record s { slots = remove_entry (is_at (place_cmp p)) s.slots }
-
-  pub holders_less : (r : Digest) → holders less.slots r + cond (same_digest r x) 1 0 ≡ holders s.slots r
-  holders_less r = count-remove_entry (same_digest r) (is_at (place_cmp p)) s.slots x was
-
-pub is_held_by_count : (s : State) (r : Digest) → is_held s.slots r ≡ not (holders s.slots r == 0)
-is_held_by_count s r = any-count (λ e. same_digest r e.1) s.slots
-
--- a leaving root, once, is gone when it is let go
-gone : (s : State) (x : Digest) → Tidy s → among s.leaving x ≡ true → among (remove_key (is_at (digest_cmp x)) s.leaving) x ≡ false
-gone s x t here = any-count (same_digest x) (remove_key (is_at (digest_cmp x)) s.leaving) ∙ none _ (omega (arith, t.roots x, removed))
-  where
-    none : (n : ℕ) → n ≡ 0 → not (n == 0) ≡ false
-    none n h = rw h refl
-
-    removed : count_by (same_digest x) (remove_key (is_at (digest_cmp x)) s.leaving) + 1 ≡ count_by (same_digest x) s.leaving
-    removed = ap (λ (b : Bool). count_by (same_digest x) (remove_key (is_at (digest_cmp x)) s.leaving) + cond b 1 0) (sym (same_self x)) ∙ count-remove_key (same_digest x) (is_at (digest_cmp x)) x (one_digest x) s.leaving here
-
-still_there : (s : State) (x r : Digest) → same_digest r x ≡ false → among (remove_key (is_at (digest_cmp x)) s.leaving) r ≡ among s.leaving r
-still_there s x r apart = any-remove_other (same_digest r) (is_at (digest_cmp x)) (λ y e. ap (same_digest r) (sym (one_digest x y e)) ∙ apart) s.leaving
-
--- the leaving roots after x is let go, where this tells whether some slot holds it
-leaving_let_go : (s : State) (t : Tidy s) (x r : Digest) → among (let_go s x).leaving r ≡ cond (same_digest r x) (among s.leaving r && is_held s.slots r) (among s.leaving r)
-leaving_let_go s t x r = go (among s.leaving x) (is_held s.slots x) refl refl
-  where
-    go : (b c : Bool) → among s.leaving x ≡ b → is_held s.slots x ≡ c → among (cond (b && not c) (record s { leaving = remove_key (is_at (digest_cmp x)) s.leaving; queue = s.queue ++ x ∷ [] }) s).leaving r ≡ cond (same_digest r x) (among s.leaving r && is_held s.slots r) (among s.leaving r)
-    go true false e h = pick (same_digest r x) refl
-      where
-        pick : (d : Bool) → same_digest r x ≡ d → among (remove_key (is_at (digest_cmp x)) s.leaving) r ≡ cond d (among s.leaving r && is_held s.slots r) (among s.leaving r)
-        pick true j = rw (one_digest r x j) (rw (e, h) (gone s x t e))
-        pick false j = still_there s x r j
-    go true true e h = pick (same_digest r x) refl
-      where
-        pick : (d : Bool) → same_digest r x ≡ d → among s.leaving r ≡ cond d (among s.leaving r && is_held s.slots r) (among s.leaving r)
-        pick true j = rw (one_digest r x j) (rw (e, h) refl)
-        pick false j = refl
-    go false c e h = pick (same_digest r x) refl
-      where
-        pick : (d : Bool) → same_digest r x ≡ d → among s.leaving r ≡ cond d (among s.leaving r && is_held s.slots r) (among s.leaving r)
-        pick true j = rw (one_digest r x j) (rw e refl)
-        pick false j = refl
-
 -- how a root stands once a place that held x is emptied
 standing_emptied : (s : State) (t : Tidy s) (p : Place) (o : Option Digest) (r : Digest) → held s.slots p ≡ o → standing_in (emptied s p o) r ≡ cond (is_root r o) (less_one (standing_in s r)) (standing_in s r)
 standing_emptied s t p None r h = refl
 standing_emptied s t p (Some x) r h =
     let u : State = less s p x h in
-    ap (λ (n : ℕ). record { holders = n; leaving = among (let_go u x).leaving r }) (ap (λ slots. holders slots r) (let_go_slots u x)) ∙ ap (λ (b : Bool). record { holders = holders u.slots r; leaving = b }) (leaving_let_go u (record { places = λ q. omega (arith, t.places q, count-remove_entry-le (λ e. is_at (place_cmp q) e.0) (is_at (place_cmp p)) s.slots); roots = t.roots }) x r) ∙ go (same_digest r x) (holders_less s p x h r)
+    ap (λ (n : ℕ). record { holders = n; leaving = among (let_go u x).leaving r }) (ap (λ slots. holders slots r) (let_go_slots u x)) ∙ ap (λ (b : Bool). record { holders = holders u.slots r; leaving = b }) (leaving_let_go u x r (t.roots x)) ∙ go (same_digest r x) (holders_less s p x h r)
   where
     go : (b : Bool) → holders (less s p x h).slots r + cond b 1 0 ≡ holders s.slots r → record { holders = holders (less s p x h).slots r; leaving = cond b (among s.leaving r && is_held (less s p x h).slots r) (among s.leaving r) } ≡ cond b (less_one (standing_in s r)) (standing_in s r)
     go true e =

@@ -19,7 +19,8 @@ use Rattle.spec_core.proofs.Holding.{one_digest, changed-append, same_self}
 use Rattle.spec_core.proofs.Once.{Once, once_slots_emptied}
 use Rattle.bv_model.proofs.Lengths.{once_at}
 use Rattle.spec_core.proofs.Numbers.{numbers_are_apart}
-use Rattle.bv_model.proofs.Rescans.{is_held_by_count, less, holders_less, fits_at, state_more}
+use Rattle.spec_core.proofs.Leaving.{is_held_by_count, less, holders_less}
+use Rattle.bv_model.proofs.Rescans.{fits_at, state_more}
 use Rattle.bv_model.proofs.Sums.{sum_by-push}
 use Rattle.bv_model.proofs.Takings.{need_in, need_at, need_found, purged-need, queued-need, leaving-flushed, leaving-published, leaving_blob, sum-insert_entry, sum-insert_key, sum-remove_key}
 use Rattle.spec_core.specs.Change.{change, begun, admitted, put_done, blob_of, settled, opened, emptied, closed, unlinked, sync_done, slots_emptied, unmount_done, made_durable, add_ends}

@@ -14,7 +14,7 @@ use Rattle.std.proofs.lemmas.List.Sums.{sum_by-cons}
 pub eq_from : (m n : ℕ) → (m == n) ≡ true → m ≡ n
 eq_from m n h = grind (arith, nat_tests)
 
-not_zero : (n : ℕ) → (1 + n == 0) ≡ false
+pub not_zero : (n : ℕ) → (1 + n == 0) ≡ false
 not_zero n = go (1 + n == 0) refl
   where
     go : (b : Bool) → (1 + n == 0) ≡ b → b ≡ false

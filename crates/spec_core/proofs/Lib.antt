@@ -3,6 +3,7 @@ pub mod Deeds
 pub mod EntryLemmas
 pub mod Histories
 pub mod Holding
+pub mod Leaving
 pub mod Logs
 pub mod Nodes
 pub mod Numbers

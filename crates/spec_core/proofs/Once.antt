@@ -114,7 +114,7 @@ once_by_deed g s Purges k a = once_flushed s k
 once_by_deed g s (Empties true) k a = once_flushed (slots_emptied s) (once_slots_emptied s k)
 once_by_deed g s (Empties false) k a = once_slots_emptied s k
 
-once_after : (g : Setting) (s : State) (e : CoreEvent) → Once s → Fits g s e → Once (after g s e)
+pub once_after : (g : Setting) (s : State) (e : CoreEvent) → Once s → Fits g s e → Once (after g s e)
 once_after g s e k f r =
     let same = alike g s e.who e.act e.reply in
     rw (same.queue, same.leaving, same.map) (once_by_deed g s (its_deed e) k (ready g s e.who e.act e.reply f) r)

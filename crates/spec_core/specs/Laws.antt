@@ -101,6 +101,12 @@ UnlinkedRootsLeave =
     → Step g old (record { who = who; act = Unlink r; reply = Unlinked; calls = calls }) new
     → is_unlinked new r ≡ true
 
+-- a root that leaves is held by some slot
+abbrev pub LeavingRootsAreHeld : Type 0
+LeavingRootsAreHeld =
+    (h : History) (next : ℕ) (r : Digest) → Legal h next
+    → among (last_state h next).leaving r ≡ true → is_held (last_state h next).slots r ≡ true
+
 -- a root stands at most once among those that are queued or leave, and only while it is in the map
 abbrev pub UnlinkedRootsStay : Type 0
 UnlinkedRootsStay =

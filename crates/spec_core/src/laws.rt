@@ -1,6 +1,6 @@
 //! Laws of the core: what each function here ensures holds of all states and histories.
 
-ghost use Rattle.spec_core.specs.Laws.{OneNewState, OneReply, SomeReply, NoNodesIsPastWorst, RoomIsBounded, WorstSumIsPassed, NumbersAreApart, LogMakesMap, HeldRootsStay, UnlinkedRootsLeave, UnlinkedRootsStay, QueueIsPurged, SlotsStay, SyncedIsLogged};
+ghost use Rattle.spec_core.specs.Laws.{OneNewState, OneReply, SomeReply, NoNodesIsPastWorst, RoomIsBounded, WorstSumIsPassed, NumbersAreApart, LogMakesMap, HeldRootsStay, UnlinkedRootsLeave, LeavingRootsAreHeld, UnlinkedRootsStay, QueueIsPurged, SlotsStay, SyncedIsLogged};
 
 /// With the reply given, an event leads to one new state.
 pub fn a_reply_fixes_the_new_state()
@@ -53,6 +53,11 @@ pub fn held_roots_stay_in_the_map()
 /// A root that an event has unlinked leaves or is queued.
 pub fn unlinked_roots_leave_or_are_queued()
     ensures { UnlinkedRootsLeave }
+{}
+
+/// A root leaves only while some slot holds it.
+pub fn leaving_roots_are_held()
+    ensures { LeavingRootsAreHeld }
 {}
 
 /// A root is queued or leaves at most once, and only while it is in the map.
