@@ -1,26 +1,17 @@
 -- What is durable, and what was logged, by so many calls: event by event.
-use Rattle.std.proofs.Common.{◌≡◌, ℕ, ◌+◌, ◌<◌, ◌≤◌, Bool, true, false, cond, ◌&&◌, nat_le, List, [], ◌∷◌, length, map, drop, get_or, drop-cons, add-one, refl, ap, sym, ◌∙◌, drop_of_length-le}
-use Rattle.spec_core.proofs.Numbers.{Renumbered, after_apart, numbers_are_apart}
+use Rattle.std.proofs.Common.{◌≡◌, ℕ, ◌+◌, ◌<◌, ◌≤◌, Bool, true, false, cond, nat_le, List, ◌∷◌, length, map, drop, get_or, drop-cons, add-one, refl, ap, sym, ◌∙◌, drop_of_length-le}
+use Rattle.spec_core.proofs.Numbers.{numbers_are_apart, lengths_apart}
 use Rattle.bv_model.proofs.Rescans.{state_more}
-use Rattle.spec_core.proofs.Timing.{picks}
+use Rattle.spec_core.proofs.Timing.{picks, is_by}
 use Rattle.spec_core.specs.History.{History, setting_of, opening_map, first_state, last_state, log_of}
 use Rattle.bv_model.specs.Rescan.{state_at}
 use Rattle.spec_core.specs.State.{State}
 use Rattle.spec_core.specs.Step.{after}
-use Rattle.spec_core.specs.Synced.{lengths_from, lengths_where, first_or, last_or, tells_durable, synced_by, logged_by}
+use Rattle.spec_core.specs.Synced.{lengths_from, lengths_where, first_or, last_or, synced_by, logged_by}
 use Rattle.spec_core.specs.declared.event.CoreEvent.{CoreEvent}
 use Rattle.spec_core.specs.declared.setting.Setting.{Setting}
 
-lengths_apart : (g : Setting) (s t : State) (es : List CoreEvent) → Renumbered s t → lengths_from g s es ≡ lengths_from g t es
-lengths_apart g s t [] same = refl
-lengths_apart g s t (e ∷ es) same =
-    let next = after_apart g s t e same in
-    ap (λ (n : ℕ). (e, n) ∷ lengths_from g (after g s e) es) (sym (ap (λ (u : State). length u.log) next)) ∙ ap (λ ps. (e, length (after g t e).log) ∷ ps) (lengths_apart g (after g s e) (after g t e) es next)
-
 -- ---- what is durable
-
-abbrev pub is_by : ℕ → CoreEvent → Bool
-is_by calls e = tells_durable e.reply && nat_le e.calls calls
 
 -- what is synced after the first so many events, where this was synced before
 abbrev pub synced_from : History → ℕ → ℕ → ℕ → ℕ → ℕ

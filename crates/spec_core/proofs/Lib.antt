@@ -1,5 +1,6 @@
 pub mod Counting
 pub mod Deeds
+pub mod Durable
 pub mod EntryLemmas
 pub mod Histories
 pub mod Holding

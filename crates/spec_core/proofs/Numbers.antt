@@ -1,5 +1,5 @@
 -- The number of the next entry changes nothing else.
-use Rattle.std.proofs.Common.{◌≡◌, ℕ, Bool, true, false, cond, not, ◌&&◌, Option, Some, None, List, [], ◌∷◌, ◌++◌, refl, sym, subst}
+use Rattle.std.proofs.Common.{◌≡◌, ℕ, Bool, true, false, cond, not, ◌&&◌, Option, Some, None, List, [], ◌∷◌, ◌++◌, length, refl, ap, sym, ◌∙◌, subst}
 use Rattle.std.specs.BTreeMap.{is_at}
 use Rattle.std.specs.BTreeSet.{insert_key}
 use Rattle.std.specs.Map.{remove_entry}
@@ -13,6 +13,7 @@ use Rattle.spec_tree.specs.Order.{digest_cmp}
 use Rattle.spec_core.specs.Order.{place_cmp}
 use Rattle.spec_core.specs.State.{State, find, among, held, is_held}
 use Rattle.spec_core.specs.Step.{after, state_after}
+use Rattle.spec_core.specs.Synced.{lengths_from}
 use Rattle.spec_core.specs.declared.act.Act.{Act}
 use Rattle.spec_core.specs.declared.act.Act.TheVariants.{Begin, Admit, Put, Settle, Retire, Open, Fetch, Read, Scan, Close, Unlink, Sync, List as ListAll, Unmount}
 use Rattle.spec_tree.specs.declared.blob.Blob.{Blob}
@@ -107,6 +108,12 @@ after_apart g s t e same = subst (λ (u : State). Renumbered (after g s e) (afte
 pub run_apart : (g : Setting) (s t : State) (es : List CoreEvent) → Renumbered s t → Renumbered (state_after g s es) (state_after g t es)
 run_apart g s t [] same = same
 run_apart g s t (e ∷ es) same = run_apart g (after g s e) (after g t e) es (after_apart g s t e same)
+
+pub lengths_apart : (g : Setting) (s t : State) (es : List CoreEvent) → Renumbered s t → lengths_from g s es ≡ lengths_from g t es
+lengths_apart g s t [] same = refl
+lengths_apart g s t (e ∷ es) same =
+    let next = after_apart g s t e same in
+    ap (λ (n : ℕ). (e, n) ∷ lengths_from g (after g s e) es) (sym (ap (λ (u : State). length u.log) next)) ∙ ap (λ ps. (e, length (after g t e).log) ∷ ps) (lengths_apart g (after g s e) (after g t e) es next)
 
 pub numbers_are_apart : NumbersAreApart
 numbers_are_apart h next = run_apart (setting_of h) (first_state (opening_map h) 0) (first_state (opening_map h) next) h.events refl

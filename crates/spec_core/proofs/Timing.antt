@@ -4,10 +4,10 @@ use Rattle.std.proofs.lemmas.Bool.Decides.{nat_tests}
 use Rattle.std.proofs.lemmas.Bool.{cases_lt}
 use Rattle.spec_core.proofs.Logs.{moves, Moved}
 use Rattle.spec_core.specs.History.{History, setting_of, opening_map, first_state, NeverFall, FromEachToNext}
-use Rattle.spec_core.specs.Laws.{SyncedIsLogged}
 use Rattle.spec_core.specs.State.{State}
 use Rattle.spec_core.specs.Step.{after, state_after}
 use Rattle.spec_core.specs.Synced.{lengths_from, log_lengths, lengths_where, first_or, last_or, tells_durable, synced_by, logged_by}
+use Rattle.spec_core.specs.SyncedLaws.{SyncedIsLogged}
 use Rattle.spec_core.specs.declared.event.CoreEvent.{CoreEvent}
 use Rattle.spec_core.specs.declared.setting.Setting.{Setting}
 
@@ -58,17 +58,19 @@ picked_within true acc l n h g = omega arith
 picked_within false acc l n h g = omega arith
 
 module _ (t : ℕ) where
-  abbrev durable : CoreEvent → Bool
-  durable e = tells_durable e.reply && nat_le e.calls t
+  -- the event tells by these calls that the log is durable
+  abbrev pub is_by : CoreEvent → Bool
+  is_by e = tells_durable e.reply && nat_le e.calls t
 
   abbrev reached : CoreEvent → Bool
   reached e = nat_le t e.calls
 
-  abbrev synced : ℕ → List (CoreEvent × ℕ) → ℕ
-  synced acc ps = last_or acc (lengths_where durable ps)
+  -- what is synced by these calls, where this was synced before
+  abbrev pub synced : ℕ → List (CoreEvent × ℕ) → ℕ
+  synced acc ps = last_or acc (lengths_where is_by ps)
 
-  synced_next : (acc : ℕ) (p : CoreEvent × ℕ) (ps : List (CoreEvent × ℕ)) → synced acc (p ∷ ps) ≡ synced (cond (durable p.0) p.1 acc) ps
-  synced_next acc p ps = picks (durable p.0) acc p (filter (λ x. durable x.0) ps)
+  pub synced_next : (acc : ℕ) (p : CoreEvent × ℕ) (ps : List (CoreEvent × ℕ)) → synced acc (p ∷ ps) ≡ synced (cond (is_by p.0) p.1 acc) ps
+  synced_next acc p ps = picks (is_by p.0) acc p (filter (λ x. is_by x.0) ps)
 
   too_late : (b : Bool) (n : ℕ) → t < n → (b && nat_le n t) ≡ false
   too_late false n h = refl
@@ -107,9 +109,9 @@ module _ (t : ℕ) where
   none_more : (acc : ℕ) (p : CoreEvent × ℕ) (ps : List (CoreEvent × ℕ)) → t ≤ p.0.calls → Rising p.0.calls p.1 ps → FromEachToNext Syncs (p ∷ ps) → synced acc ps ≡ acc
   none_more acc p [] late k f = refl
   none_more acc p (q ∷ ps) late k f =
-      synced_next acc q ps ∙ go (durable q.0) refl ∙ none_more acc q ps (omega (arith, k.0)) k.2 f.1
+      synced_next acc q ps ∙ go (is_by q.0) refl ∙ none_more acc q ps (omega (arith, k.0)) k.2 f.1
     where
-      go : (b : Bool) → durable q.0 ≡ b → synced (cond b q.1 acc) ps ≡ synced acc ps
+      go : (b : Bool) → is_by q.0 ≡ b → synced (cond b q.1 acc) ps ≡ synced acc ps
       go true e = absurd (omega (arith, f.0 (told (tells_durable q.0.reply) (nat_le q.0.calls t) e), in_time (tells_durable q.0.reply) q.0.calls e))
       go false e = refl
 
@@ -119,9 +121,9 @@ module _ (t : ℕ) where
   stays_logged : Stays Logs
   stays_logged acc p [] late h k f = h
   stays_logged acc p (q ∷ ps) late h k f =
-      rw (synced_next acc q ps) (go (λ a g. stays_logged a q ps (omega (arith, k.0)) g k.2 f.1) (durable q.0) refl)
+      rw (synced_next acc q ps) (go (λ a g. stays_logged a q ps (omega (arith, k.0)) g k.2 f.1) (is_by q.0) refl)
     where
-      go : ((a : ℕ) → a ≤ q.1 → synced a ps ≤ q.1) → (b : Bool) → durable q.0 ≡ b → synced (cond b q.1 acc) ps ≤ p.1
+      go : ((a : ℕ) → a ≤ q.1 → synced a ps ≤ q.1) → (b : Bool) → is_by q.0 ≡ b → synced (cond b q.1 acc) ps ≤ p.1
       go r true e = elim (cases_lt p.1 q.1) [
         | inl more ↦ absurd (omega (arith, f.0 more, in_time (tells_durable q.0.reply) q.0.calls e))
         | inr same ↦ omega (arith, r q.1 (omega arith))
@@ -134,13 +136,13 @@ module _ (t : ℕ) where
   synced_logged : (R : CoreEvent × ℕ → CoreEvent × ℕ → Type 0) → Stays R → (acc c l : ℕ) (ps : List (CoreEvent × ℕ)) → acc ≤ l → Rising c l ps → FromEachToNext R ps → synced acc ps ≤ first_or (last_length l ps) (lengths_where reached ps)
   synced_logged R stays acc c l [] h k f = h
   synced_logged R stays acc c l (p ∷ ps) h k f =
-      rw (synced_next acc p ps) (go (synced_logged R stays (cond (durable p.0) p.1 acc) p.0.calls p.1 ps more k.2 (past_first R p ps f)) (reached p.0) refl)
+      rw (synced_next acc p ps) (go (synced_logged R stays (cond (is_by p.0) p.1 acc) p.0.calls p.1 ps more k.2 (past_first R p ps f)) (reached p.0) refl)
     where
-      more : cond (durable p.0) p.1 acc ≤ p.1
-      more = picked_within (durable p.0) acc l p.1 h k.1
+      more : cond (is_by p.0) p.1 acc ≤ p.1
+      more = picked_within (is_by p.0) acc l p.1 h k.1
 
-      go : synced (cond (durable p.0) p.1 acc) ps ≤ first_or (last_length p.1 ps) (lengths_where reached ps) → (b : Bool) → reached p.0 ≡ b → synced (cond (durable p.0) p.1 acc) ps ≤ first_or (last_length p.1 ps) (map (λ (x : CoreEvent × ℕ). x.1) (cond b (p ∷ filter (λ x. reached x.0) ps) (filter (λ x. reached x.0) ps)))
-      go rest true e = stays (cond (durable p.0) p.1 acc) p ps (le_from t p.0.calls e) more k.2 f
+      go : synced (cond (is_by p.0) p.1 acc) ps ≤ first_or (last_length p.1 ps) (lengths_where reached ps) → (b : Bool) → reached p.0 ≡ b → synced (cond (is_by p.0) p.1 acc) ps ≤ first_or (last_length p.1 ps) (map (λ (x : CoreEvent × ℕ). x.1) (cond b (p ∷ filter (λ x. reached x.0) ps) (filter (λ x. reached x.0) ps)))
+      go rest true e = stays (cond (is_by p.0) p.1 acc) p ps (le_from t p.0.calls e) more k.2 f
       go rest false e = rest
 
   logged_at_end : (R : CoreEvent × ℕ → CoreEvent × ℕ → Type 0) → Stays R → (h : History) → NeverFall 0 h.events → FromEachToNext R (log_lengths h) → synced_by h t ≤ logged_by h t

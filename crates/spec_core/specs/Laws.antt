@@ -1,15 +1,15 @@
 -- What the rules mean together: each statement is the contract of a function of `laws`.
-use Rattle.std.specs.Prelude.{◌≡◌, ℕ, true, false, ◌-◌, ◌<◌, ◌≤◌, ◌⊎◌, cond, ◌++◌, length, Some, None, is_some}
+use Rattle.std.specs.Prelude.{◌≡◌, ℕ, true, false, ◌-◌, ◌<◌, ◌≤◌, cond, ◌++◌, length, Some, None, is_some}
 use Rattle.std.specs.List.{count_by}
 use Rattle.spec_tree.specs.declared.Digest.{Digest}
 use Rattle.spec_tree.specs.Order.{same_digest}
 use Rattle.spec_core.specs.Choice.{choice, is_empty, place_of}
-use Rattle.spec_core.specs.History.{History, setting_of, opening_map, last_state, room, worst_sum, Legal, FromEachToNext}
+use Rattle.spec_core.specs.History.{History, setting_of, opening_map, last_state, room, worst_sum, Legal}
 use Rattle.spec_core.specs.Log.{changed, queued}
 use Rattle.spec_core.specs.Room.{worst_sum_in}
 use Rattle.spec_core.specs.State.{State, find, held, among, is_held, is_unlinked}
 use Rattle.spec_core.specs.Step.{Chosen, Fits, Step, after}
-use Rattle.spec_core.specs.Synced.{log_lengths, synced_by, logged_by, SyncsInCalls, fault_of}
+use Rattle.spec_core.specs.Synced.{fault_of}
 use Rattle.spec_core.specs.declared.act.Act.{Act}
 use Rattle.spec_core.specs.declared.act.Act.TheVariants.{Admit, Settle, Close, Unlink, Unmount}
 use Rattle.spec_core.specs.declared.event.CoreEvent.{CoreEvent}
@@ -132,15 +132,3 @@ SlotsStay =
     (g : Setting) (s : State) (e : CoreEvent) (p : Place) (r : Digest)
     → Fits g s e → held s.slots p ≡ Some r → ¬ Empties p e.who e.act
     → held (after g s e).slots p ≡ Some r
-
--- each event in which the log grows has more calls than the event before it
-abbrev pub LogsInCalls : History → Type 0
-LogsInCalls h =
-    FromEachToNext (λ old new. old.1 < new.1 → old.0.calls < new.0.calls) (log_lengths h)
-
--- what is durable after so many calls was logged by then, where each sync makes a call of its own,
--- or each event that logs does
-abbrev pub SyncedIsLogged : Type 0
-SyncedIsLogged =
-    (h : History) (next calls : ℕ) → Legal h next → SyncsInCalls h ⊎ LogsInCalls h
-    → synced_by h calls ≤ logged_by h calls

@@ -10,3 +10,4 @@ pub mod Room
 pub mod State
 pub mod Step
 pub mod Synced
+pub mod SyncedLaws

@@ -1,6 +1,7 @@
 //! Laws of the core: what each function here ensures holds of all states and histories.
 
-ghost use Rattle.spec_core.specs.Laws.{OneNewState, OneReply, SomeReply, NoNodesIsPastWorst, RoomIsBounded, WorstSumIsPassed, NumbersAreApart, LogMakesMap, HeldRootsStay, UnlinkedRootsLeave, LeavingRootsAreHeld, UnlinkedRootsStay, QueueIsPurged, SlotsStay, SyncedIsLogged};
+ghost use Rattle.spec_core.specs.Laws.{OneNewState, OneReply, SomeReply, NoNodesIsPastWorst, RoomIsBounded, WorstSumIsPassed, NumbersAreApart, LogMakesMap, HeldRootsStay, UnlinkedRootsLeave, LeavingRootsAreHeld, UnlinkedRootsStay, QueueIsPurged, SlotsStay};
+ghost use Rattle.spec_core.specs.SyncedLaws.{SyncedIsDurable, SyncedIsLogged};
 
 /// With the reply given, an event leads to one new state.
 pub fn a_reply_fixes_the_new_state()
@@ -73,6 +74,11 @@ pub fn each_queued_root_is_purged()
 /// A slot holds its root until a close or the unmount.
 pub fn slots_keep_their_roots()
     ensures { SlotsStay }
+{}
+
+/// Once the calls of all events are made, what is synced is what is durable.
+pub fn what_is_synced_is_durable()
+    ensures { SyncedIsDurable }
 {}
 
 /// What is durable after so many calls was logged by then, where each sync makes a call of its own,
