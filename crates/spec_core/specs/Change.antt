@@ -55,7 +55,8 @@ abbrev pub put_done : State → Reply → State
 put_done s (DeviceFault f) = record s { stopped = Some f }
 put_done s _ = s
 
--- the blob of an add of this size, with the volume's version (size 0 comes only without an add)
+-- the blob of an add of this size, with the volume's version (without an add there is no size, and
+-- 0 stands for it; no such settle comes)
 abbrev pub blob_of : Setting → Option ℕ → Blob
 blob_of g (Some n) = record { size = n; version = g.version }
 blob_of g None = record { size = 0; version = g.version }

@@ -46,7 +46,7 @@ abbrev pub unless_empty : Option Digest → Choice → Choice
 unless_empty None rest = Only BadSlot
 unless_empty (Some r) rest = rest
 
--- an event of an add comes only while the add is under way
+-- an admit or a settle comes only while the add is under way
 abbrev pub if_added : Option ℕ → (ℕ → Choice) → Choice
 if_added None rest = Never
 if_added (Some n) rest = rest n

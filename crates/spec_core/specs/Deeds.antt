@@ -22,7 +22,7 @@ abbrev pub open_deed : Place → Digest → Reply → Deed
 open_deed p r (Opened n) = Opens p r
 open_deed p r _ = Nothing
 
--- a close that closed empties its place
+-- a close that closed empties its place, and queues a leaving root that nothing holds then
 abbrev pub close_deed : Place → Reply → Deed
 close_deed p Closed = Closes p
 close_deed p _ = Nothing
@@ -37,7 +37,8 @@ abbrev pub sync_deed : Reply → Deed
 sync_deed Synced = Purges
 sync_deed _ = Nothing
 
--- an unmount empties every place, whatever it replies, and purges the queue where it succeeds
+-- an unmount empties every place and queues all leaving roots, whatever it replies, and purges the
+-- queue where it succeeds
 abbrev pub unmount_deed : Reply → Deed
 unmount_deed Unmounted = Empties true
 unmount_deed _ = Empties false

@@ -13,7 +13,8 @@ use Rattle.spec_core.specs.declared.place.Place.{Place}
 
 -- what the rules know of a mount between two events
 pub record State : Type 0 where
-  -- root to size and version, for every blob that the log has published and not purged
+  -- root to size and version, for every blob of the opening or published since, and not purged; an
+  -- entry that failed leaves it as it was
   pub map : List (Digest × Blob)
   -- the publications and purges of this mount
   pub log : List MapChange

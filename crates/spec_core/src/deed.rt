@@ -9,7 +9,7 @@ pub enum Deed {
     Nothing,
     /// The place holds the root.
     Opens { place: Place, root: Digest },
-    /// The place holds nothing.
+    /// The place holds nothing, and a leaving root that nothing holds then is queued.
     Closes { place: Place },
     /// The root leaves, or is queued.
     Unlinks { root: Digest },
@@ -17,6 +17,7 @@ pub enum Deed {
     Publishes { root: Digest },
     /// The queue is purged.
     Purges,
-    /// No place holds anything, and with `purges` the queue is purged.
+    /// No place holds anything and all leaving roots are queued, and with `purges` the queue is then
+    /// purged.
     Empties { purges: bool },
 }
