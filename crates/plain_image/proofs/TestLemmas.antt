@@ -1,9 +1,12 @@
 -- The tests of well-formed metadata, number by number.
-use Rattle.std.proofs.Common.{◌≡◌, ℕ, zero, suc, ◌+◌, ◌<◌, Bool, true, false, cond, not, leb, eqb, ◌&&◌, ◌||◌, refl, ap, sym, ◌∙◌, inl, inr, arith}
+use Rattle.std.proofs.Common.{◌≡◌, ℕ, zero, suc, ◌+◌, ◌<◌, [], ◌∷◌, ◌++◌, Bool, true, false, cond, not, leb, eqb, ◌&&◌, ◌||◌, refl, ap, sym, ◌∙◌, inl, inr, arith}
 use Rattle.std.proofs.lemmas.Bool.{cases_lt}
-use Rattle.std.specs.Prelude.{is_ok}
+use Rattle.std.proofs.lemmas.List.Sums.{sum_by-cons, sum_by-append}
+use Rattle.std.specs.Prelude.{is_ok, count_by}
+use Rattle.std.specs.List.{range_with_len}
+use Rattle.spec_tree.proofs.SizesLemmas.{range-suc}
 use Rattle.spec_image.specs.Chain.{chain}
-use Rattle.spec_image.specs.WellFormed.{records_of, all_below, extents_with, chains_with, is_inode, is_container, bit_wanted}
+use Rattle.spec_image.specs.WellFormed.{records_of, all_below, count_below, extents_with, chains_with, is_inode, is_container, bit_wanted}
 use Rattle.plain_image.specs.declared.metadata.MetadataBlocks.{MetadataBlocks}
 use Rattle.plain_image.specs.Plain.{metadata_read}
 
@@ -49,3 +52,13 @@ below_fails (suc n) k test lt fails =
     last_fails : (a b : Bool) → b ≡ false → false ≡ (a && b)
     last_fails true b e = sym e
     last_fails false b e = refl
+
+-- a count over the numbers of a range
+pub count_range : (n : ℕ) (test : ℕ → Bool) → count_by test (range_with_len 0 n) ≡ count_below n test
+unfolding count_below
+count_range zero test = refl
+count_range (suc n) test =
+    let first : 0 + n ≡ n = omega arith in
+    let all : count_by test (range_with_len 0 (suc n)) ≡ count_by test (range_with_len 0 n) + count_by test (n ∷ []) =
+    ap (count_by test) (range-suc 0 n ∙ ap (λ (k : ℕ). range_with_len 0 n ++ k ∷ []) first) ∙ sum_by-append (λ k. cond (test k) 1 0) (range_with_len 0 n) (n ∷ []) in
+    omega (arith, all, count_range n test, sum_by-cons (λ k. cond (test k) 1 0) n [])

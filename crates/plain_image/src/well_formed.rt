@@ -2,9 +2,11 @@
 
 ghost use Rattle.std.specs.Prelude.{◌≡◌, ◌<◌, ◌+◌, ◌==◌, nat_le, ◌||◌, not, if◌then◌else◌, is_ok};
 ghost use Rattle.std.specs.Prelude.{length, count_by, sum_by, map, IfOk};
-ghost use Rattle.spec_image.specs.Chain.{lengths, chain};
+ghost use Rattle.std.specs.List.{range_with_len};
+ghost use Rattle.spec_image.specs.Chain.{chain};
 ghost use Rattle.spec_image.specs.WellFormed.{
   records_of,
+  count_below,
   covers,
   blobs_named,
   is_inode,
@@ -16,6 +18,7 @@ ghost use Rattle.spec_image.specs.WellFormed.{
   blocks_apart,
   roots_apart,
   bits_right,
+  blocks_in_extents,
   counts_right,
   is_well_formed,
 };
@@ -121,6 +124,13 @@ fn covering(extents: &[Extent], d: u64) -> usize
     extents.iter().filter(|extent| is_in(d, extent)).count()
 }
 
+/// Whether data block `d` is in these extents.
+fn is_covered(extents: &[Extent], d: u64) -> bool
+    ensures { result ≡ nat_le 1 (count_by (covers d) extents.now) }
+{
+    1 <= covering(extents, d)
+}
+
 /// Whether data block `d` is in one of these extents or in none.
 fn is_apart(extents: &[Extent], d: u64) -> bool
     ensures { result ≡ nat_le (count_by (covers d) extents.now) 1 }
@@ -173,7 +183,7 @@ fn is_wanted(metadata: &MetadataBlocks, extents: &[Extent], d: u64) -> bool
     requires { extents.now ≡ extents_read metadata.now }
     ensures { result ≡ bit_wanted (metadata_read metadata.now) d }
 {
-    d == 0 || 1 <= covering(extents, d)
+    d == 0 || is_covered(extents, d)
 }
 
 /// Whether bit `d` of the bitmap is as it is to be.
@@ -202,18 +212,12 @@ fn are_bits_right(metadata: &MetadataBlocks, extents: &[Extent]) -> bool
     true
 }
 
-/// Whether these extents have so many blocks in all.
-fn add_up(extents: &[Extent], blocks: u64) -> bool
-    ensures { result ≡ (blocks == lengths extents.now) }
+/// How many data blocks below `blocks` are in these extents.
+fn covered(extents: &[Extent], blocks: u64) -> usize
+    ensures { result
+        ≡ count_by (λ d. nat_le 1 (count_by (covers d) extents.now)) (range_with_len 0 blocks) }
 {
-    let mut left = blocks;
-    for extent in extents {
-        if extent.len > left {
-            return false;
-        }
-        left -= extent.len;
-    }
-    left == 0
+    (0..blocks).filter(|d| is_covered(extents, *d)).count()
 }
 
 fn is_blob_count(metadata: &MetadataBlocks, records: &[ChainedBlob]) -> bool
@@ -227,10 +231,10 @@ fn is_blob_count(metadata: &MetadataBlocks, records: &[ChainedBlob]) -> bool
 fn is_block_count(metadata: &MetadataBlocks, extents: &[Extent]) -> bool
     requires { extents.now ≡ extents_read metadata.now }
     ensures { let m = metadata_read metadata.now in
-        result ≡ (m.super.used_blocks == 1 + sum_by (λ b. lengths b.extents) (records_of m)) }
+        result ≡ (m.super.used_blocks == 1 + blocks_in_extents m) }
 {
     let used = metadata.superblock.used_blocks;
-    1 <= used && add_up(extents, used - 1)
+    1 <= used && covered(extents, metadata.superblock.geometry.blocks) as u64 == used - 1
 }
 
 fn is_node_count(metadata: &MetadataBlocks, nodes: &[u32]) -> bool

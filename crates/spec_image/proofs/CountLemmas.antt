@@ -6,8 +6,8 @@ use Rattle.std.specs.Prelude.{IsOk, is_ok, sum_by, count_by}
 use Rattle.spec_record.specs.declared.node_fault.NodeFault.{NodeFault}
 use Rattle.spec_image.specs.Chain.{Nodes, BlobRecord, chain}
 use Rattle.spec_image.specs.Metadata.{Metadata}
-use Rattle.spec_image.specs.WellFormed.{read_of, records_below, records_of, chains_with, is_inode, is_container}
-use Rattle.spec_image.specs.WellFormedParts.{WellFormed, is_used, count_below}
+use Rattle.spec_image.specs.WellFormed.{read_of, records_below, records_of, count_below, chains_with, is_inode, is_container}
+use Rattle.spec_image.specs.WellFormedParts.{WellFormed, is_used}
 use Rattle.spec_image.proofs.ChainLemmas.{AllVisited, chain_nodes}
 
 abbrev count : Bool → ℕ
@@ -41,16 +41,16 @@ inode_count ns blocks (suc n) reads =
 
 -- ---- sums over numbers
 
-unfoldable pub sum_below : ℕ → (ℕ → ℕ) → ℕ
+unfoldable sum_below : ℕ → (ℕ → ℕ) → ℕ
 sum_below zero f = 0
 sum_below (suc n) f = sum_below n f + f n
 
-pub sum_add : (n : ℕ) (f g h : ℕ → ℕ) → ((k : ℕ) → k < n → h k ≡ f k + g k) → sum_below n h ≡ sum_below n f + sum_below n g
+sum_add : (n : ℕ) (f g h : ℕ → ℕ) → ((k : ℕ) → k < n → h k ≡ f k + g k) → sum_below n h ≡ sum_below n f + sum_below n g
 unfolding sum_below
 sum_add zero f g h e = refl
 sum_add (suc n) f g h e = omega (arith, sum_add n f g h (λ k lt. e k (omega arith)), e n (omega arith))
 
-pub sum_zero : (n : ℕ) → sum_below n (λ _. 0) ≡ 0
+sum_zero : (n : ℕ) → sum_below n (λ _. 0) ≡ 0
 unfolding sum_below
 sum_zero zero = refl
 sum_zero (suc n) = omega (arith, sum_zero n)

@@ -30,9 +30,9 @@ use Rattle.spec_image.specs.Empty.{zero_block, empty_super, empty_info, first_bi
 use Rattle.spec_image.specs.Journal.{Journal, journal_of, slot_past}
 use Rattle.spec_image.specs.Replay.{onto, entries_from, replay_at, replay}
 use Rattle.spec_image.specs.After.{payloads_of, last_naming, after}
-use Rattle.spec_image.specs.Chain.{Nodes, BlobRecord, lengths, chain}
+use Rattle.spec_image.specs.Chain.{Nodes, BlobRecord, chain}
 use Rattle.spec_image.specs.Metadata.{Metadata, metadata_in}
-use Rattle.spec_image.specs.WellFormed.{read_of, records_below, records_of, extents_with, blobs_named, is_inode, is_container, is_well_formed}
+use Rattle.spec_image.specs.WellFormed.{read_of, records_below, records_of, count_below, extents_with, blobs_named, is_inode, is_container, is_well_formed}
 use Rattle.spec_image.specs.WellFormedParts.{WellFormed}
 use Rattle.spec_image.specs.Blobs.{blob_map}
 use Rattle.spec_image.specs.Volume.{image_super, same_geometry, replayed_super, metadata_with, metadata_of, blobs}
@@ -136,6 +136,11 @@ no_records ns blocks zero reads = refl
 no_records ns blocks (suc n) reads =
     rw (no_records ns blocks n (λ k lt. reads k (omega (arith, lt))), no_chain ns blocks n (reads n (omega arith))) refl
 
+count_none : (n : ℕ) → count_below n (λ _. false) ≡ 0
+unfolding count_below
+count_none zero = refl
+count_none (suc n) = omega (arith, count_none n)
+
 -- metadata without a blob is well formed
 empty_well_formed : (m : Metadata) → ((k : ℕ) → k < m.nodes.count → m.nodes.read k ≡ free) → ((d : ℕ) → d < m.bit_count → m.bit d ≡ eqb d 0)
     → m.super.blobs ≡ 0 → m.super.used_blocks ≡ 1 → m.super.used_nodes ≡ 0 → WellFormed m
@@ -149,7 +154,7 @@ empty_well_formed m reads bits blobs used_blocks used_nodes =
       roots = λ root. omega (arith, ap (λ (bs : List BlobRecord). blobs_named bs root) none);
       bits = λ d lt. bits d lt ∙ sym (or_false (eqb d 0)) ∙ sym (ap (λ (bs : List BlobRecord). eqb d 0 || leb 1 (extents_with bs d)) none);
       blob_count = blobs ∙ sym (ap (length {A = BlobRecord}) none);
-      block_count = used_blocks ∙ sym (ap (λ (bs : List BlobRecord). 1 + sum_by (λ b. lengths b.extents) bs) none);
+      block_count = used_blocks ∙ sym (ap (λ (bs : List BlobRecord). 1 + count_below m.super.geometry.blocks (λ d. leb 1 (extents_with bs d))) none ∙ ap (λ (n : ℕ). 1 + n) (count_none m.super.geometry.blocks));
       node_count = used_nodes ∙ sym (ap (λ (bs : List BlobRecord). sum_by (λ b. length b.nodes) bs) none);
     }
   where

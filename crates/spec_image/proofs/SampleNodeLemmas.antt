@@ -1,11 +1,11 @@
 -- What the chains and the metadata by hand are, computed.
-use Rattle.std.proofs.Common.{◌≡◌, true, false, Result, Ok, Err, refl}
+use Rattle.std.proofs.Common.{◌≡◌, [], ◌∷◌, true, false, Result, Ok, Err, refl}
 use Rattle.spec_record.specs.declared.node_fault.NodeFault.{NodeFault}
 use Rattle.spec_record.specs.declared.node_fault.NodeFault.TheVariants as faults
 use Rattle.spec_tree.specs.Tree.{need_of, tree_blocks_of, levels_of, levels_above, digests_at}
 use Rattle.spec_image.specs.Chain.{BlobRecord, check_counts, walk, chain}
-use Rattle.spec_image.specs.WellFormed.{records_below, all_below, is_well_formed, containers_placed, blocks_apart, roots_apart, bits_right, counts_right}
-use Rattle.spec_image.specs.SampleNodes.{pair, inode, container, blob, good, orphaned, overlapping, twice, marked_past, miscounted}
+use Rattle.spec_image.specs.WellFormed.{records_below, all_below, count_below, is_well_formed}
+use Rattle.spec_image.specs.SampleNodes.{pair, inode, container, blob, parts, good, orphaned, overlapping, twice, marked_past, miscounted}
 
 abbrev done : BlobRecord → Result BlobRecord NodeFault
 done b = Ok b
@@ -42,25 +42,25 @@ unfolding need_of tree_blocks_of levels_of levels_above digests_at check_counts 
 chain_container = refl
 
 pub metadata_good : is_well_formed good ≡ true
-unfolding need_of tree_blocks_of levels_of levels_above digests_at check_counts walk chain records_below all_below is_well_formed
+unfolding need_of tree_blocks_of levels_of levels_above digests_at check_counts walk chain records_below all_below count_below is_well_formed
 metadata_good = refl
 
-pub metadata_orphan : containers_placed orphaned ≡ false
-unfolding need_of tree_blocks_of levels_of levels_above digests_at check_counts walk chain records_below all_below is_well_formed
+pub metadata_orphan : parts orphaned ≡ true ∷ true ∷ false ∷ true ∷ true ∷ true ∷ true ∷ []
+unfolding need_of tree_blocks_of levels_of levels_above digests_at check_counts walk chain records_below all_below count_below is_well_formed
 metadata_orphan = refl
 
-pub metadata_overlap : blocks_apart overlapping ≡ false
-unfolding need_of tree_blocks_of levels_of levels_above digests_at check_counts walk chain records_below all_below is_well_formed
+pub metadata_overlap : parts overlapping ≡ true ∷ true ∷ true ∷ false ∷ true ∷ true ∷ true ∷ []
+unfolding need_of tree_blocks_of levels_of levels_above digests_at check_counts walk chain records_below all_below count_below is_well_formed
 metadata_overlap = refl
 
-pub metadata_twice : roots_apart twice ≡ false
-unfolding need_of tree_blocks_of levels_of levels_above digests_at check_counts walk chain records_below all_below is_well_formed
+pub metadata_twice : parts twice ≡ true ∷ true ∷ true ∷ true ∷ false ∷ true ∷ true ∷ []
+unfolding need_of tree_blocks_of levels_of levels_above digests_at check_counts walk chain records_below all_below count_below is_well_formed
 metadata_twice = refl
 
-pub metadata_bit : bits_right marked_past ≡ false
-unfolding need_of tree_blocks_of levels_of levels_above digests_at check_counts walk chain records_below all_below is_well_formed
+pub metadata_bit : parts marked_past ≡ true ∷ true ∷ true ∷ true ∷ true ∷ false ∷ true ∷ []
+unfolding need_of tree_blocks_of levels_of levels_above digests_at check_counts walk chain records_below all_below count_below is_well_formed
 metadata_bit = refl
 
-pub metadata_counts : counts_right miscounted ≡ false
-unfolding need_of tree_blocks_of levels_of levels_above digests_at check_counts walk chain records_below all_below is_well_formed
+pub metadata_counts : parts miscounted ≡ true ∷ true ∷ true ∷ true ∷ true ∷ true ∷ false ∷ []
+unfolding need_of tree_blocks_of levels_of levels_above digests_at check_counts walk chain records_below all_below count_below is_well_formed
 metadata_counts = refl

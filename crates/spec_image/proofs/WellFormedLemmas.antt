@@ -10,9 +10,9 @@ use Rattle.spec_record.specs.declared.extent.Extent.{Extent}
 use Rattle.spec_record.specs.declared.node_fault.NodeFault.{NodeFault}
 use Rattle.spec_record.specs.Tests.{is_between}
 use Rattle.spec_record.proofs.TestLemmas.{both_true, both, at_most, leb_true, equal, eqb_same}
-use Rattle.spec_image.specs.Chain.{Nodes, BlobRecord, lengths, chain}
+use Rattle.spec_image.specs.Chain.{Nodes, BlobRecord, chain}
 use Rattle.spec_image.specs.Metadata.{Metadata}
-use Rattle.spec_image.specs.WellFormed.{read_of, records_below, records_of, all_below, covers, extents_with, chains_with, blobs_named, is_inode, is_container, nodes_read, chains_read, containers_placed, blocks_apart, roots_apart, bit_wanted, bits_right, counts_right, is_well_formed}
+use Rattle.spec_image.specs.WellFormed.{read_of, records_below, records_of, all_below, covers, extents_with, chains_with, blobs_named, is_inode, is_container, nodes_read, chains_read, containers_placed, blocks_apart, roots_apart, bit_wanted, bits_right, blocks_in_extents, counts_right, is_well_formed}
 use Rattle.spec_image.specs.WellFormedParts.{WellFormed}
 use Rattle.spec_image.proofs.ChainLemmas.{AllExtents, chain_extents}
 use Rattle.spec_image.proofs.SoundLemmas.{one_root}
@@ -97,7 +97,7 @@ unfolding records_below AllRecords
 records_extents ns blocks zero = tt
 records_extents ns blocks (suc n) = all_append blocks (records_below ns blocks n) (read_of (chain ns blocks n)) (records_extents ns blocks n) (read_extents ns blocks n (chain ns blocks n) refl)
 
-past_records : (blocks d : ℕ) (bs : List BlobRecord) → AllRecords blocks bs → blocks ≤ d → extents_with bs d ≡ 0
+pub past_records : (blocks d : ℕ) (bs : List BlobRecord) → AllRecords blocks bs → blocks ≤ d → extents_with bs d ≡ 0
 unfolding AllRecords
 past_records blocks d [] good past = refl
 past_records blocks d (b ∷ bs) good past =
@@ -158,7 +158,7 @@ module _ (m : Metadata) where
       let f = both_true _ (containers_placed m) d.0 in
       let g = both_true (nodes_read m) (chains_read m) f.0 in
       let counts = both_true _ (eqb m.super.used_nodes (sum_by (λ x. length x.nodes) bs)) a.1 in
-      let first = both_true (eqb m.super.blobs (length bs)) (eqb m.super.used_blocks (1 + sum_by (λ x. lengths x.extents) bs)) counts.0 in
+      let first = both_true (eqb m.super.blobs (length bs)) (eqb m.super.used_blocks (1 + blocks_in_extents m)) counts.0 in
       record {
         nodes = λ k lt. below_each m.nodes.count (λ x. is_ok (m.nodes.read x)) g.0 k lt;
         chains = λ k lt is. implies (is_inode (m.nodes.read k)) (is_ok (chain m.nodes size k)) (below_each m.nodes.count (λ x. not (is_inode (m.nodes.read x)) || is_ok (chain m.nodes size x)) g.1 k lt) is;
@@ -167,7 +167,7 @@ module _ (m : Metadata) where
         roots = few_named bs c.1;
         bits = λ x lt. agree (m.bit x) (bit_wanted m x) (below_each m.bit_count (λ y. cond (m.bit y) (bit_wanted m y) (not (bit_wanted m y))) b.1 x lt);
         blob_count = equal m.super.blobs (length bs) first.0;
-        block_count = equal m.super.used_blocks (1 + sum_by (λ x. lengths x.extents) bs) first.1;
+        block_count = equal m.super.used_blocks (1 + blocks_in_extents m) first.1;
         node_count = equal m.super.used_nodes (sum_by (λ x. length x.nodes) bs) counts.1;
       }
 
@@ -182,7 +182,7 @@ module _ (m : Metadata) where
       let roots : roots_apart m ≡ true = all_few bs bs w.roots in
       let bits : bits_right m ≡ true = each_below m.bit_count (λ y. cond (m.bit y) (bit_wanted m y) (not (bit_wanted m y))) (λ k lt. agrees (m.bit k) (bit_wanted m k) (w.bits k lt)) in
       let one = eqb_same m.super.blobs (length bs) w.blob_count in
-      let two = eqb_same m.super.used_blocks (1 + sum_by (λ x. lengths x.extents) bs) w.block_count in
+      let two = eqb_same m.super.used_blocks (1 + blocks_in_extents m) w.block_count in
       let three = eqb_same m.super.used_nodes (sum_by (λ x. length x.nodes) bs) w.node_count in
       let counts : counts_right m ≡ true = both _ _ (both _ _ one two) three in
       both _ _ (both _ _ (both _ _ (both _ _ (both _ _ (both _ _ nodes chains) containers) blocks) roots) bits) counts

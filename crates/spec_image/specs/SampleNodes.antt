@@ -1,6 +1,6 @@
 -- Nodes and metadata by hand: a blob of six data blocks and one of digests, in seven extents, in a
 -- volume of sixteen data blocks.
-use Rattle.std.specs.Prelude.{ℕ, zero, suc, ◌==◌, List, [], ◌∷◌, replicate, Result, Ok}
+use Rattle.std.specs.Prelude.{ℕ, zero, suc, ◌==◌, Bool, List, [], ◌∷◌, replicate, Result, Ok}
 use Rattle.std.specs.List.{list_any}
 use Rattle.spec_tree.specs.declared.Digest.{Digest}
 use Rattle.spec_record.specs.declared.extent.Extent.{Extent}
@@ -10,6 +10,7 @@ use Rattle.spec_record.specs.declared.node_fault.NodeFault.{NodeFault}
 use Rattle.spec_record.specs.Node.{no_node}
 use Rattle.spec_image.specs.Chain.{Nodes, BlobRecord}
 use Rattle.spec_image.specs.Metadata.{Metadata}
+use Rattle.spec_image.specs.WellFormed.{nodes_read, chains_read, containers_placed, blocks_apart, roots_apart, bits_right, counts_right}
 
 -- an extent of one block
 abbrev pub at : ℕ → Extent
@@ -108,17 +109,23 @@ small_inode byte = nodes.Inode (record {
   version = 1;
 })
 
+-- what each part says: nodes, chains, containers, blocks, roots, bits and counts
+abbrev pub parts : Metadata → List Bool
+parts m =
+    nodes_read m ∷ chains_read m ∷ containers_placed m ∷ blocks_apart m ∷ roots_apart m
+    ∷ bits_right m ∷ counts_right m ∷ []
+
 -- well-formed metadata; in each of those below one part is wrong
 abbrev pub good : Metadata
 good = metadata nodes_of_blob marks 1 8 2
 
 -- a container that no inode leads to
 abbrev pub orphaned : Metadata
-orphaned = metadata (pair (inode 2) (container 0 6 1 5)) marks 1 8 2
+orphaned = metadata (pair empty_inode (container 0 6 1 5)) (0 ∷ []) 1 1 1
 
 -- a data block in two extents
 abbrev pub overlapping : Metadata
-overlapping = metadata (pair (small_inode 1) (small_inode 2)) (0 ∷ 2 ∷ []) 2 3 2
+overlapping = metadata (pair (small_inode 1) (small_inode 2)) (0 ∷ 2 ∷ []) 2 2 2
 
 -- two blobs with one root
 abbrev pub twice : Metadata

@@ -7,7 +7,7 @@ use Rattle.spec_record.specs.declared.extent.Extent.{Extent}
 use Rattle.spec_record.specs.declared.node.Node.{Node}
 use Rattle.spec_record.specs.declared.node.Node.TheVariants as nodes
 use Rattle.spec_record.specs.declared.node_fault.NodeFault.{NodeFault}
-use Rattle.spec_image.specs.Chain.{Nodes, BlobRecord, lengths, chain}
+use Rattle.spec_image.specs.Chain.{Nodes, BlobRecord, chain}
 use Rattle.spec_image.specs.Metadata.{Metadata}
 use Rattle.spec_tree.specs.Order.{same_digest}
 
@@ -29,6 +29,11 @@ records_of m = records_below m.nodes m.super.geometry.blocks m.nodes.count
 unfoldable pub all_below : ℕ → (ℕ → Bool) → Bool
 all_below zero test = true
 all_below (suc n) test = all_below n test && test n
+
+-- how many numbers below n pass
+unfoldable pub count_below : ℕ → (ℕ → Bool) → ℕ
+count_below zero test = 0
+count_below (suc n) test = count_below n test + (if test n then 1 else 0)
 
 -- data block d is in an extent
 abbrev pub covers : ℕ → Extent → Bool
@@ -92,12 +97,17 @@ abbrev pub bits_right : Metadata → Bool
 bits_right m =
     all_below m.bit_count (λ d. if m.bit d then bit_wanted m d else not (bit_wanted m d))
 
--- the superblock's three counts are right: the number of the blobs, the number of their blocks and
--- data block 0 together, and the number of their nodes
+-- how many data blocks are in extents, a block in several counted once
+abbrev pub blocks_in_extents : Metadata → ℕ
+blocks_in_extents m =
+    count_below m.super.geometry.blocks (λ d. nat_le 1 (extents_with (records_of m) d))
+
+-- the superblock's three counts are right: the number of the blobs, one more (for data block 0) than
+-- the number of data blocks in extents, and the number of the blobs' nodes
 abbrev pub counts_right : Metadata → Bool
 counts_right m =
     (m.super.blobs == length (records_of m))
-    && (m.super.used_blocks == 1 + sum_by (λ b. lengths b.extents) (records_of m))
+    && (m.super.used_blocks == 1 + blocks_in_extents m)
     && (m.super.used_nodes == sum_by (λ b. length b.nodes) (records_of m))
 
 -- WellFormed: all of these

@@ -1,9 +1,9 @@
 -- What well-formed metadata is, part by part, and what its counts count (this project's profile).
-use Rattle.std.specs.Prelude.{◌≡◌, ℕ, zero, suc, ◌+◌, ◌<◌, ◌≤◌, length, sum_by, Bool, true, ◌||◌, if◌then◌else◌, IsOk}
+use Rattle.std.specs.Prelude.{◌≡◌, ℕ, ◌+◌, ◌<◌, ◌≤◌, length, sum_by, Bool, true, ◌||◌, IsOk}
 use Rattle.spec_tree.specs.declared.Digest.{Digest}
-use Rattle.spec_image.specs.Chain.{lengths, chain}
+use Rattle.spec_image.specs.Chain.{chain}
 use Rattle.spec_image.specs.Metadata.{Metadata}
-use Rattle.spec_image.specs.WellFormed.{records_of, extents_with, chains_with, blobs_named, is_inode, is_container, bit_wanted}
+use Rattle.spec_image.specs.WellFormed.{records_of, count_below, extents_with, chains_with, blobs_named, is_inode, is_container, bit_wanted, blocks_in_extents}
 
 -- WellFormed: every node and chain reads, every container stands in one chain, no data block and no
 -- root is used twice, and bits and counts are right
@@ -17,13 +17,8 @@ pub record WellFormed (m : Metadata) : Type 0 where
   pub roots : (root : Digest) → blobs_named (records_of m) root ≤ 1
   pub bits : (d : ℕ) → d < m.bit_count → m.bit d ≡ bit_wanted m d
   pub blob_count : m.super.blobs ≡ length (records_of m)
-  pub block_count : m.super.used_blocks ≡ 1 + sum_by (λ b. lengths b.extents) (records_of m)
+  pub block_count : m.super.used_blocks ≡ 1 + blocks_in_extents m
   pub node_count : m.super.used_nodes ≡ sum_by (λ b. length b.nodes) (records_of m)
-
--- how many numbers below n pass
-unfoldable pub count_below : ℕ → (ℕ → Bool) → ℕ
-count_below zero test = 0
-count_below (suc n) test = count_below n test + (if test n then 1 else 0)
 
 -- node k is in use: an inode or a container
 abbrev pub is_used : Metadata → ℕ → Bool

@@ -13,7 +13,7 @@ ghost use Rattle.spec_image.specs.SampleNodes as nodes;
 ghost use Rattle.spec_image.specs.SampleTrees as trees;
 ghost use Rattle.spec_image.specs.Stored.{stored_data, tree_block};
 ghost use Rattle.spec_image.specs.Replay.{replay, next_slot, next_number, stale_slots};
-ghost use Rattle.spec_image.specs.WellFormed.{is_well_formed, containers_placed, blocks_apart, roots_apart, bits_right, counts_right};
+ghost use Rattle.spec_image.specs.WellFormed.{is_well_formed};
 
 /// An entry may wrap around the ring. Its payload replaces block 2.
 pub fn an_entry_may_wrap()
@@ -67,14 +67,19 @@ pub fn a_chain_names_its_first_fault()
         ≡ Err (faults.Extent 1 0) }
 {}
 
-/// Metadata is well formed, and isn't where one of its parts is wrong.
+/// Metadata is well formed, and isn't where one of its parts is wrong, all others being right.
 pub fn metadata_may_be_well_formed()
     ensures well_formed { is_well_formed nodes.good ≡ true }
-    ensures orphan { containers_placed nodes.orphaned ≡ false }
-    ensures overlap { blocks_apart nodes.overlapping ≡ false }
-    ensures root_twice { roots_apart nodes.twice ≡ false }
-    ensures bit_past_the_blocks { bits_right nodes.marked_past ≡ false }
-    ensures count { counts_right nodes.miscounted ≡ false }
+    ensures orphan { nodes.parts nodes.orphaned
+        ≡ true ∷ true ∷ false ∷ true ∷ true ∷ true ∷ true ∷ [] }
+    ensures overlap { nodes.parts nodes.overlapping
+        ≡ true ∷ true ∷ true ∷ false ∷ true ∷ true ∷ true ∷ [] }
+    ensures root_twice { nodes.parts nodes.twice
+        ≡ true ∷ true ∷ true ∷ true ∷ false ∷ true ∷ true ∷ [] }
+    ensures bit_past_the_blocks { nodes.parts nodes.marked_past
+        ≡ true ∷ true ∷ true ∷ true ∷ true ∷ false ∷ true ∷ [] }
+    ensures count { nodes.parts nodes.miscounted
+        ≡ true ∷ true ∷ true ∷ true ∷ true ∷ true ∷ false ∷ [] }
 {}
 
 /// In version 1 each level fills blocks of its own before the data.

@@ -12,6 +12,6 @@ pub returns-else-d-eq0 : goal.returns-else-d-eq0
 returns-else-d-eq0 c =
     let d : ℕ = c.args.d in
     let bs : List BlobRecord = records_of (metadata_read c.args.metadata.now) in
-    let counted : c.covering.result ≡ extents_with bs d = c.covering.ensures ∙ ap (count_by (covers d)) c.requires ∙ count_flat (covers d) (λ b. b.extents) bs in
+    let counted : count_by (covers d) c.args.extents.now ≡ extents_with bs d = ap (count_by (covers d)) c.requires ∙ count_flat (covers d) (λ b. b.extents) bs in
     let other : eqb d 0 ≡ false = ne_eqb d 0 c.if-d-eq0.false in
-    ap (leb 1) counted ∙ sym (ap (λ (b : Bool). b || leb 1 (extents_with bs d)) other)
+    c.is_covered.ensures ∙ ap (leb 1) counted ∙ sym (ap (λ (b : Bool). b || leb 1 (extents_with bs d)) other)
