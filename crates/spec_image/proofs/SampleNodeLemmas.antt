@@ -33,6 +33,10 @@ pub chain_count : chain (pair (inode 1) (container 0 5 1 5)) 16 0 ≡ failed (fa
 unfolding need_of tree_blocks_of levels_of levels_above digests_at check_counts walk chain
 chain_count = refl
 
+pub chain_first : chain (pair (inode 1) (container 0 5 1 16)) 16 0 ≡ failed (faults.Count 5 6)
+unfolding need_of tree_blocks_of levels_of levels_above digests_at check_counts walk chain
+chain_first = refl
+
 pub chain_extent : chain (pair (inode 1) (container 0 6 1 16)) 16 0 ≡ failed (faults.Extent 1 0)
 unfolding need_of tree_blocks_of levels_of levels_above digests_at check_counts walk chain
 chain_extent = refl

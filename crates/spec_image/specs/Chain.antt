@@ -1,8 +1,8 @@
 -- The chain of nodes that a blob has, from its inode on (this project's profile).
 --
 -- A blob with e extents has its first in the inode and six in each container behind it but the
--- last. The faults come in the order of the tests; `Count` says what was stored and what was
--- wanted, `BadLink` and `Extent` name the node that holds the link or the extent.
+-- last. The faults come in the order of the tests; `Count` says the two numbers of its test,
+-- `BadLink` and `Extent` name the node that holds the link or the extent.
 use Rattle.std.specs.Prelude.{ℕ, zero, suc, ◌+◌, ◌-◌, min, List, [], ◌∷◌, ◌++◌, take, sum_by, Bool, true, false, ◌==◌, nat_le, nat_lt, ◌&&◌, ◌||◌, if◌then◌else◌, Result, Ok, Err}
 use Rattle.spec_tree.specs.Tree.{need_of}
 use Rattle.spec_tree.specs.declared.Digest.{Digest}

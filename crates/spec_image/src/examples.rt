@@ -51,7 +51,7 @@ pub fn a_chain_gives_its_extents_in_order()
         ≡ Ok nodes.blob }
 {}
 
-/// A chain names the first test that fails.
+/// A chain names the first test that fails, also where a later one would fail too.
 pub fn a_chain_names_its_first_fault()
     ensures no_inode { chain (nodes.pair (nodes.inode 1) (nodes.container 0 6 1 5)) 16 1
         ≡ Err faults.NotInode }
@@ -62,6 +62,8 @@ pub fn a_chain_names_its_first_fault()
     ensures other_version { chain (nodes.pair (nodes.inode 1) (nodes.container 0 6 2 5)) 16 0
         ≡ Err (faults.BadLink 0) }
     ensures not_full { chain (nodes.pair (nodes.inode 1) (nodes.container 0 5 1 5)) 16 0
+        ≡ Err (faults.Count 5 6) }
+    ensures not_full_first { chain (nodes.pair (nodes.inode 1) (nodes.container 0 5 1 16)) 16 0
         ≡ Err (faults.Count 5 6) }
     ensures extent_past_the_end { chain (nodes.pair (nodes.inode 1) (nodes.container 0 6 1 16)) 16 0
         ≡ Err (faults.Extent 1 0) }

@@ -36,8 +36,9 @@ pub fn a_journal_has_one_replay()
 {}
 
 /// In images that hold all blocks of a geometry, of whatever length, the replay depends on the info
-/// block and the ring alone, the replayed metadata and the map on these and the metadata blocks. The
-/// bytes of a blob depend on its own blocks.
+/// block and the ring alone, and the replayed metadata on these and the metadata blocks. So does the
+/// map, in such images whose superblock has that geometry. The bytes of a blob depend on its own
+/// blocks.
 pub fn an_image_depends_on_its_parts()
     ensures replay { (g : Geometry) (a b : List (List ℕ)) → SameJournal g a b
         → replay (journal_of g a) ≡ replay (journal_of g b) }
@@ -49,8 +50,12 @@ pub fn an_image_depends_on_its_parts()
         → SameBlocks g a b (blocks_of r.extents) → bytes_in g a r ≡ bytes_in g b r }
 {}
 
-/// Neither an image in which the entry that was being written lacks its header or its commit, nor
-/// one that has it whole, is one by chance.
+/// An image whose info block and accepted entries are as synced isn't one by chance where it lacks
+/// the header or the commit of the entry that was being written, or has all of that entry as it was
+/// last written and lacks the header or the commit of the next.
+///
+/// The header is lacking where the entry's first slot doesn't bear the magic of entries and the
+/// entry's number, and the commit where no other slot of the ring does.
 pub fn a_torn_add_is_no_chance()
     ensures { (g : Geometry) (i : Info) (base : List (List ℕ)) (p : List Event) (j : List (List ℕ))
         → TornAdd g i base p j → NoChance base p j }
