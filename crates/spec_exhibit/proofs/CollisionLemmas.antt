@@ -47,18 +47,18 @@ block-same : (a b : List ℕ) (level i : ℕ) → AreTwo a b → HasBlock (lengt
     → level_of a level ≡ level_of b level
     → (data_at a level i ≡ data_at b level i) ⊎ IsCollisionOf a b level i
 block-same a b level i two has same =
-    let within : i < digests_at (length b) level =
-    subst (λ (n : ℕ). i < digests_at n level) two.long has.index_within in
+    let too : HasBlock (length b) level i =
+    subst (λ (n : ℕ). HasBlock n level i) two.long has in
     let digests : sha256 (message_at a level i) ≡ sha256 (message_at b level i) =
     ap (λ (d : Digest). d.0)
     (sym (get_or-level_of a level i (digest_of []) has.index_within)
     ∙ ap (λ (ds : List Digest). get_or ds i (digest_of [])) same
-    ∙ get_or-level_of b level i (digest_of []) within) in
+    ∙ get_or-level_of b level i (digest_of []) too.index_within) in
     elim (messages-same (message_at a level i) (message_at b level i)
     (block_message-are level (8192 * i) _ (data_at-are a level i two.bytes_a))
     (block_message-are level (8192 * i) _ (data_at-are b level i two.bytes_b)) digests) [
       | inl e ↦ inl (block_message-same level (8192 * i) _ _ (data_at-long a b level i two.long) e)
-      | inr c ↦ inr (record { block = has; messages = c })
+      | inr c ↦ inr (record { first_block = has; second_block = too; messages = c })
     ]
 
 -- ---- the blocks of a level

@@ -33,9 +33,9 @@ first-not c = not_from_Decides _ (bytes_eq-Decides _ _) digests-unlike c.message
 
 pub two_bytes-not : ¬ TreesCollide (blob_of 0) (blob_of 1)
 two_bytes-not (level, (index, c)) =
-    let bottom : level ≡ 0 = level-first level c.block.level_within in
+    let bottom : level ≡ 0 = level-first level c.first_block.level_within in
     let at_bottom = subst (λ (n : ℕ). IsCollisionOf (blob_of 0) (blob_of 1) n index) bottom c in
-    let start : index ≡ 0 = index-first index at_bottom.block.index_within in
+    let start : index ≡ 0 = index-first index at_bottom.first_block.index_within in
     first-not (subst (λ (n : ℕ). IsCollisionOf (blob_of 0) (blob_of 1) 0 n) start at_bottom)
 
 byte-is : (byte : ℕ) → byte < 256 → AreBytes (blob_of byte)

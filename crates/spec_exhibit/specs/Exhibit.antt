@@ -33,9 +33,10 @@ pub record HasBlock (size level index : ℕ) : Type 0 where
   pub level_within : level ≤ levels_of size
   pub index_within : index < digests_at size level
 
--- at this level and index the tree of a has a block, whose message and that of b's block collide
+-- both trees have a block at this level and index, and the messages of these blocks collide
 pub record IsCollisionOf (a b : List ℕ) (level index : ℕ) : Type 0 where
-  pub block : HasBlock (length a) level index
+  pub first_block : HasBlock (length a) level index
+  pub second_block : HasBlock (length b) level index
   pub messages : IsCollision (message_at a level index) (message_at b level index)
 
 -- the trees of a and b collide at a level and an index, which are named
