@@ -28,21 +28,27 @@ pub(crate) const SMALL: Setting = Setting {
     version: 1,
 };
 
-/// An event, and whether it is a step after those before it.
-pub(crate) struct Row(pub(crate) Act, pub(crate) Reply, pub(crate) bool);
+/// An event of this session, and whether it is a step after those before it.
+pub(crate) struct Row(
+    pub(crate) u32,
+    pub(crate) Act,
+    pub(crate) Reply,
+    pub(crate) bool,
+);
 
 /// One blob is published, after each refusal of an add.
 const ADDS: [Row; 24] = [
-    Row(Act::Open { slot: 0, root: A }, Reply::NotFound, true),
-    Row(Act::Close { slot: 0 }, Reply::BadSlot, true),
-    Row(Act::Fetch { slot: 0, window: 0 }, Reply::BadSlot, true),
-    Row(Act::Scan { slot: 0 }, Reply::BadSlot, true),
-    Row(Act::Admit { root: A }, Reply::Admitted, false),
-    Row(Act::Settle { root: A }, Reply::Published, false),
-    Row(BEGIN_A, Reply::Exists, false),
-    Row(BEGIN_A, Reply::Granted, true),
-    Row(BEGIN_A, Reply::InFlight, true),
+    Row(0, Act::Open { slot: 0, root: A }, Reply::NotFound, true),
+    Row(0, Act::Close { slot: 0 }, Reply::BadSlot, true),
+    Row(0, Act::Fetch { slot: 0, window: 0 }, Reply::BadSlot, true),
+    Row(0, Act::Scan { slot: 0 }, Reply::BadSlot, true),
+    Row(0, Act::Admit { root: A }, Reply::Admitted, false),
+    Row(0, Act::Settle { root: A }, Reply::Published, false),
+    Row(0, BEGIN_A, Reply::Exists, false),
+    Row(0, BEGIN_A, Reply::Granted, true),
+    Row(0, BEGIN_A, Reply::InFlight, true),
     Row(
+        0,
         Act::Begin {
             root: B,
             size: 14 * BLOCK,
@@ -51,6 +57,7 @@ const ADDS: [Row; 24] = [
         false,
     ),
     Row(
+        0,
         Act::Begin {
             root: B,
             size: 14 * BLOCK,
@@ -59,6 +66,7 @@ const ADDS: [Row; 24] = [
         true,
     ),
     Row(
+        0,
         Act::Begin {
             root: B,
             size: 13 * BLOCK,
@@ -67,53 +75,63 @@ const ADDS: [Row; 24] = [
         true,
     ),
     Row(
+        0,
         Act::Begin { root: C, size: 1 },
         Reply::NoSpace { need: 1, room: 0 },
         true,
     ),
     Row(
+        0,
         Act::Admit { root: B },
         Reply::NoNodes { need: 4, free: 2 },
         false,
     ),
     Row(
+        0,
         Act::Admit { root: B },
         Reply::NoNodes { need: 5, free: 3 },
         false,
     ),
     Row(
+        0,
         Act::Admit { root: B },
         Reply::NoNodes { need: 4, free: 3 },
         true,
     ),
-    Row(Act::Retire { root: B }, Reply::Retired, true),
+    Row(0, Act::Retire { root: B }, Reply::Retired, true),
     Row(
+        0,
         Act::Admit { root: A },
         Reply::NoNodes { need: 1, free: 0 },
         false,
     ),
-    Row(Act::Admit { root: A }, Reply::Admitted, true),
-    Row(Act::Put { index: 0 }, Reply::Written, true),
-    Row(Act::Unmount, Reply::Unmounted, false),
-    Row(Act::Settle { root: A }, Reply::Published, true),
-    Row(BEGIN_A, Reply::Exists, true),
-    Row(Act::List, Reply::Listed { count: 1 }, true),
+    Row(0, Act::Admit { root: A }, Reply::Admitted, true),
+    Row(0, Act::Put { index: 0 }, Reply::Written, true),
+    Row(0, Act::Unmount, Reply::Unmounted, false),
+    Row(0, Act::Settle { root: A }, Reply::Published, true),
+    Row(0, BEGIN_A, Reply::Exists, true),
+    Row(0, Act::List, Reply::Listed { count: 1 }, true),
 ];
 
-/// A slot holds the blob while it is unlinked.
-const SLOTS: [Row; 16] = [
+/// A slot holds the blob while it is unlinked. Another session has a slot of the same number, which
+/// holds nothing.
+const SLOTS: [Row; 17] = [
     Row(
+        0,
         Act::Open { slot: 0, root: A },
         Reply::Opened { size: 1 },
         false,
     ),
     Row(
+        0,
         Act::Open { slot: 0, root: A },
         Reply::Opened { size: BLOCK },
         true,
     ),
-    Row(Act::Open { slot: 0, root: A }, Reply::SlotTaken, true),
+    Row(0, Act::Open { slot: 0, root: A }, Reply::SlotTaken, true),
+    Row(1, Act::Scan { slot: 0 }, Reply::BadSlot, true),
     Row(
+        0,
         Act::Read {
             slot: 0,
             off: 0,
@@ -123,6 +141,7 @@ const SLOTS: [Row; 16] = [
         true,
     ),
     Row(
+        0,
         Act::Read {
             slot: 1,
             off: 0,
@@ -131,26 +150,28 @@ const SLOTS: [Row; 16] = [
         Reply::BadSlot,
         true,
     ),
-    Row(Act::Scan { slot: 0 }, Reply::Reading, true),
-    Row(Act::Fetch { slot: 0, window: 0 }, Reply::Fetched, true),
+    Row(0, Act::Scan { slot: 0 }, Reply::Reading, true),
+    Row(0, Act::Fetch { slot: 0, window: 0 }, Reply::Fetched, true),
     Row(
+        0,
         Act::Fetch { slot: 0, window: 0 },
         Reply::ReadFault { fault: 7 },
         true,
     ),
-    Row(Act::Unlink { root: A }, Reply::Unlinked, true),
-    Row(Act::Unlink { root: A }, Reply::NotFound, true),
-    Row(Act::Open { slot: 1, root: A }, Reply::NotFound, true),
-    Row(BEGIN_A, Reply::Leaving { handles: 1 }, true),
-    Row(Act::List, Reply::Listed { count: 1 }, false),
-    Row(Act::List, Reply::Listed { count: 0 }, true),
-    Row(Act::Close { slot: 0 }, Reply::Closed, true),
-    Row(BEGIN_A, Reply::Leaving { handles: 0 }, true),
+    Row(0, Act::Unlink { root: A }, Reply::Unlinked, true),
+    Row(0, Act::Unlink { root: A }, Reply::NotFound, true),
+    Row(0, Act::Open { slot: 1, root: A }, Reply::NotFound, true),
+    Row(0, BEGIN_A, Reply::Leaving { handles: 1 }, true),
+    Row(0, Act::List, Reply::Listed { count: 1 }, false),
+    Row(0, Act::List, Reply::Listed { count: 0 }, true),
+    Row(0, Act::Close { slot: 0 }, Reply::Closed, true),
+    Row(0, BEGIN_A, Reply::Leaving { handles: 0 }, true),
 ];
 
 /// A sync frees the blocks of a purge; then the numbers end, and the device fails.
 const ENDS: [Row; 20] = [
     Row(
+        0,
         Act::Begin {
             root: B,
             size: BLOCK,
@@ -158,10 +179,11 @@ const ENDS: [Row; 20] = [
         Reply::Granted,
         true,
     ),
-    Row(Act::Admit { root: B }, Reply::Admitted, true),
-    Row(Act::Put { index: 0 }, Reply::Written, true),
-    Row(Act::Settle { root: B }, Reply::Published, true),
+    Row(0, Act::Admit { root: B }, Reply::Admitted, true),
+    Row(0, Act::Put { index: 0 }, Reply::Written, true),
+    Row(0, Act::Settle { root: B }, Reply::Published, true),
     Row(
+        0,
         Act::Begin {
             root: C,
             size: 13 * BLOCK,
@@ -169,9 +191,10 @@ const ENDS: [Row; 20] = [
         Reply::NoSpace { need: 14, room: 13 },
         true,
     ),
-    Row(Act::Sync, Reply::NumberEnd, false),
-    Row(Act::Sync, Reply::Synced, true),
+    Row(0, Act::Sync, Reply::NumberEnd, false),
+    Row(0, Act::Sync, Reply::Synced, true),
     Row(
+        0,
         Act::Begin {
             root: C,
             size: 13 * BLOCK,
@@ -179,26 +202,38 @@ const ENDS: [Row; 20] = [
         Reply::Granted,
         true,
     ),
-    Row(Act::Settle { root: C }, Reply::Published, false),
-    Row(Act::Settle { root: C }, Reply::NumberEnd, true),
-    Row(Act::Unlink { root: B }, Reply::Unlinked, true),
-    Row(Act::Sync, Reply::Synced, false),
-    Row(Act::Sync, Reply::NumberEnd, true),
-    Row(Act::Put { index: 1 }, Reply::DeviceFault { fault: 3 }, true),
+    Row(0, Act::Settle { root: C }, Reply::Published, false),
+    Row(0, Act::Settle { root: C }, Reply::NumberEnd, true),
+    Row(0, Act::Unlink { root: B }, Reply::Unlinked, true),
+    Row(0, Act::Sync, Reply::Synced, false),
+    Row(0, Act::Sync, Reply::NumberEnd, true),
     Row(
+        0,
+        Act::Put { index: 1 },
+        Reply::DeviceFault { fault: 3 },
+        true,
+    ),
+    Row(
+        0,
         Act::Begin { root: C, size: 1 },
         Reply::Stopped { fault: 4 },
         false,
     ),
     Row(
+        0,
         Act::Begin { root: C, size: 1 },
         Reply::Stopped { fault: 3 },
         true,
     ),
-    Row(Act::Unlink { root: C }, Reply::Stopped { fault: 3 }, true),
-    Row(Act::Sync, Reply::Stopped { fault: 3 }, true),
-    Row(Act::List, Reply::Listed { count: 0 }, true),
-    Row(Act::Unmount, Reply::Stopped { fault: 3 }, true),
+    Row(
+        0,
+        Act::Unlink { root: C },
+        Reply::Stopped { fault: 3 },
+        true,
+    ),
+    Row(0, Act::Sync, Reply::Stopped { fault: 3 }, true),
+    Row(0, Act::List, Reply::Listed { count: 0 }, true),
+    Row(0, Act::Unmount, Reply::Stopped { fault: 3 }, true),
 ];
 
 /// Each row's event is a step of the core where the row says so, and else changes nothing.
@@ -208,10 +243,10 @@ pub(crate) fn goes_as_said<R: Abort>(
     name: &str,
     rows: &[Row],
 ) -> Result<(), Fail> {
-    for (at, Row(act, reply, wanted)) in rows.iter().enumerate() {
+    for (at, Row(session, act, reply, wanted)) in rows.iter().enumerate() {
         let event = CoreEvent {
             who: Who {
-                session: 0,
+                session: *session,
                 line: 1,
             },
             act: *act,
