@@ -1,13 +1,15 @@
 //! Whether an image is one that a stop within a `format` may leave.
 
-ghost use Rattle.std.specs.Prelude.{◌≡◌, ◌⊎◌, ◌↔◌, IfOk, IsTrue};
+ghost use Rattle.std.specs.Prelude.{◌≡◌, ◌⊎◌, ◌↔◌, [], IfOk, IsTrue};
 ghost use Rattle.spec_crash.specs.Format.{head, HasOldHead, HasNoHead, IsEmptyVolume};
 ghost use Rattle.spec_disk.specs.Disk as D;
 
 use plain_image::{blobs_from, metadata_from};
 use spec_disk::{Block, Event, now_of};
 use spec_record::Geometry;
+use spec_tree::{Blob, Digest};
 use std::alloc::{AllocError, Global};
+use std::collections::BTreeMap;
 
 /// The first sector of block 0; without a block, no bytes.
 fn head_of(disk: &[Block]) -> &[u8]
@@ -53,6 +55,13 @@ fn has_no_head(image: &[Block]) -> bool
     head_of(image) == [0; 512].as_slice()
 }
 
+/// Whether the geometry that was found is this one, and no blob is held.
+fn is_same_and_empty(found: &Geometry, geometry: &Geometry, held: &BTreeMap<Digest, Blob>) -> bool
+    ensures { IsTrue result ↔ ((found.now ≡ geometry.now) × (held.now.entries ≡ [])) }
+{
+    found == geometry && held.is_empty()
+}
+
 /// Whether an image is a volume of this geometry without a blob.
 fn is_empty_volume(alloc: Global, geometry: &Geometry, image: &[Block]) -> Result<bool, AllocError>
     ensures { IfOk result (λ yes. IsTrue yes ↔ IsEmptyVolume geometry.now image.now) }
@@ -63,7 +72,8 @@ fn is_empty_volume(alloc: Global, geometry: &Geometry, image: &[Block]) -> Resul
     let Some(held) = blobs_from(alloc, image)? else {
         return Ok(false);
     };
-    Ok(metadata.superblock.geometry == *geometry && held.is_empty())
+    let found = &metadata.superblock.geometry;
+    Ok(is_same_and_empty(found, geometry, &held))
 }
 
 /// Whether an image has the old head, or none, or is the new empty volume, where `base` and

@@ -8,3 +8,4 @@ mod BlobLemmas
 mod VerifyingLemmas
 mod ChanceLemmas
 mod SoundLemmas
+pub mod CallerLemmas

@@ -1,4 +1,4 @@
--- The metadata of an image, part by part.
+-- The superblock and the blocks of an image with its journal replayed, part by part.
 use Rattle.std.proofs.Common.{◌≡◌, ℕ, ◌+◌, ◌*◌, ◌/◌, ◌%◌, ◌^◌, ◌<◌, ◌≤◌, List, [], ◌∷◌, length, map, get_or, drop, Bool, true, false, cond, eqb, Option, Some, None, IfSome, refl, ap, sym, ◌∙◌, arith}
 use Rattle.std.proofs.lemmas.List.{get_or-take, get_or-drop}
 use Rattle.std.proofs.lemmas.List.FromFn.{length-map-range_with_len}
@@ -22,9 +22,8 @@ use Rattle.spec_record.proofs.TestLemmas.{both_true, equal}
 use Rattle.spec_image.specs.Journal.{journal_of, journal_with}
 use Rattle.spec_image.specs.Replay.{replay}
 use Rattle.spec_image.specs.After.{last_naming, payloads_of, after}
-use Rattle.spec_image.specs.Metadata.{Metadata, metadata_in}
-use Rattle.spec_image.specs.WellFormed.{is_well_formed}
-use Rattle.spec_image.specs.Volume.{image_super, same_geometry, replayed_super, metadata_with, metadata_of}
+use Rattle.spec_image.specs.Volume.{image_super, same_geometry, replayed_super}
+use Rattle.plain_image.specs.Plain.{read_super_with, read_super}
 
 -- a superblock that is read is spelled so, and an info is within its ranges
 pub super_spelled : (bytes : List ℕ) (device_blocks : ℕ) (o : Option Super) → IsBlock bytes → o ≡ super_of bytes device_blocks → IfSome o (SpellsSuper bytes device_blocks)
@@ -64,7 +63,7 @@ bit_read g blocks d lt =
     get_or-take (bitmap_blocks g) (drop 1 blocks) (d / 65536) [] below ∙ get_or-drop 1 blocks (d / 65536) [] in
     ap (λ (b : List ℕ). eqb (get_or b (d % 65536 / 8) 0 / 2 ^ (d % 65536 % 8) % 2) 1) here
 
--- ---- the metadata, or none
+-- ---- the superblock, or none
 
 pub same_is : (a b : Geometry) → same_geometry a b ≡ true → a ≡ b
 same_is a b e =
@@ -77,9 +76,9 @@ same_is a b e =
     let version = equal a.version b.version first.0 in
     λ k. record { blocks = blocks k; nodes = nodes k; journal = journal k; version = version k }
 
-pub no_super : (image : List (List ℕ)) → image_super image ≡ None → metadata_of image ≡ None
-unfolding metadata_of
-no_super image none = ap (option_and_then (λ (s : Super). metadata_with image s.geometry)) none
+pub no_super : (image : List (List ℕ)) → image_super image ≡ None → read_super image ≡ None
+unfolding read_super
+no_super image none = ap (option_and_then (λ (s : Super). read_super_with image s.geometry)) none
 
 no_bytes : super_of [] 0 ≡ None
 unfolding super_or_fault field number_of
@@ -89,37 +88,34 @@ pub no_block : (image : List (List ℕ)) → length image ≡ 0 → image_super 
 no_block [] none = no_bytes
 no_block (b ∷ bs) none = absurd cc
 
-pub no_blocks : (image : List (List ℕ)) → length image ≡ 0 → metadata_of image ≡ None
+pub no_blocks : (image : List (List ℕ)) → length image ≡ 0 → read_super image ≡ None
 no_blocks image none = no_super image (no_block image none)
 
-pub with_super : (image : List (List ℕ)) (s : Super) → image_super image ≡ Some s → metadata_with image s.geometry ≡ metadata_of image
-unfolding metadata_of
-with_super image s some = sym (ap (option_and_then (λ (x : Super). metadata_with image x.geometry)) some)
+pub with_super : (image : List (List ℕ)) (s : Super) → image_super image ≡ Some s → read_super_with image s.geometry ≡ read_super image
+unfolding read_super
+with_super image s some = sym (ap (option_and_then (λ (x : Super). read_super_with image x.geometry)) some)
 
--- a superblock that was replayed, with its metadata tested
-abbrev tested : Geometry → List (List ℕ) → Super → Option Metadata
-tested g image s = let m = metadata_in s (after g image) in cond (is_well_formed m) (Some m) None
+-- a superblock that the replay left is kept where it has the image's geometry
+abbrev pub kept : Geometry → Super → Option Super
+kept g s = cond (same_geometry s.geometry g) (Some s) None
 
 module _ (g : Geometry) (image : List (List ℕ)) where
-  pub no_info : (journal_of g image).info ≡ None → metadata_with image g ≡ None
-  no_info none = ap (λ (o : Option Info). option_and_then (tested g image) (cond (is_some o) (replayed_super g image) None)) none
+  pub no_info : (journal_of g image).info ≡ None → read_super_with image g ≡ None
+  no_info none = ap (λ (o : Option Info). cond (is_some o) (replayed_super g image) None) none
 
   module _ (i : Info) (some : (journal_of g image).info ≡ Some i) where
-    with_info : metadata_with image g ≡ option_and_then (tested g image) (replayed_super g image)
-    with_info = ap (λ (o : Option Info). option_and_then (tested g image) (cond (is_some o) (replayed_super g image) None)) some
+    with_info : read_super_with image g ≡ replayed_super g image
+    with_info = ap (λ (o : Option Info). cond (is_some o) (replayed_super g image) None) some
 
-    abbrev kept : Super → Option Super
-    kept s = cond (same_geometry s.geometry g) (Some s) None
-
-    pub no_replayed : super_of (block (after g image) 0) (length image) ≡ None → metadata_with image g ≡ None
-    no_replayed none = with_info ∙ ap (λ (o : Option Super). option_and_then (tested g image) (option_and_then kept o)) none
+    pub no_replayed : super_of (block (after g image) 0) (length image) ≡ None → read_super_with image g ≡ None
+    no_replayed none = with_info ∙ ap (option_and_then (kept g)) none
 
     module _ (s : Super) (read : super_of (block (after g image) 0) (length image) ≡ Some s) where
-      replayed : metadata_with image g ≡ option_and_then (tested g image) (kept s)
-      replayed = with_info ∙ ap (λ (o : Option Super). option_and_then (tested g image) (option_and_then kept o)) read
+      replayed : read_super_with image g ≡ kept g s
+      replayed = with_info ∙ ap (option_and_then (kept g)) read
 
-      pub moved : same_geometry s.geometry g ≡ false → metadata_with image g ≡ None
-      moved other = replayed ∙ ap (λ (b : Bool). option_and_then (tested g image) (cond b (Some s) None)) other
+      pub moved : same_geometry s.geometry g ≡ false → read_super_with image g ≡ None
+      moved other = replayed ∙ ap (λ (b : Bool). cond b (Some s) None) other
 
-      pub stayed : same_geometry s.geometry g ≡ true → metadata_with image g ≡ tested g image s
-      stayed same = replayed ∙ ap (λ (b : Bool). option_and_then (tested g image) (cond b (Some s) None)) same
+      pub stayed : same_geometry s.geometry g ≡ true → read_super_with image g ≡ Some s
+      stayed same = replayed ∙ ap (λ (b : Bool). cond b (Some s) None) same

@@ -10,8 +10,9 @@ ghost use Rattle.spec_record.specs.Laws.{SpellsSuper};
 ghost use Rattle.spec_record.specs.Superblock.{super_of};
 ghost use Rattle.spec_image.specs.After.{after};
 ghost use Rattle.spec_image.specs.Journal.{journal_of};
-ghost use Rattle.spec_image.specs.Volume.{same_geometry, metadata_with, metadata_of};
+ghost use Rattle.spec_image.specs.Volume.{same_geometry};
 ghost use Rattle.plain_image.specs.Plain.{metadata_read, HasBlocks, IsReadFrom};
+ghost use Rattle.plain_image.specs.Plain.{read_super_with, read_super};
 
 use crate::after::replayed_blocks;
 use crate::replay::replay_of;
@@ -134,7 +135,7 @@ fn metadata_of_geometry(
 ) -> Result<Option<MetadataBlocks>, AllocError>
     requires limits { IsGeometry geometry.now }
     requires room { total_blocks geometry.now ≤ length image.now }
-    ensures { let wanted = metadata_with image.now geometry.now in IfOk result (λ found.
+    ensures { let wanted = read_super_with image.now geometry.now in IfOk result (λ found.
         MatchOption found (wanted ≡ None) (IsReadFrom image.now wanted)) }
 {
     let Some(info) = info_in(image, geometry) else {
@@ -153,7 +154,7 @@ fn metadata_of_geometry(
 /// The metadata of an image with its journal replayed, well formed or not. None where superblock or
 /// info isn't read, or the replay leaves no valid superblock of the same geometry.
 pub fn metadata_from(alloc: Global, image: &[Block]) -> Result<Option<MetadataBlocks>, AllocError>
-    ensures { let wanted = metadata_of image.now in IfOk result (λ found.
+    ensures { let wanted = read_super image.now in IfOk result (λ found.
         MatchOption found (wanted ≡ None) (IsReadFrom image.now wanted)) }
 {
     if image.is_empty() {

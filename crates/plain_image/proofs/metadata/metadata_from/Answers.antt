@@ -1,6 +1,6 @@
 -- The superblock of block 0 gives the geometry.
 use Rattle.std.proofs.Common.{◌≡◌, Option, None, length, MatchOption, IfOk, sym, subst, ◌∙◌, rules}
-use Rattle.spec_image.specs.Metadata.{Metadata}
+use Rattle.spec_record.specs.declared.superblock.Super.{Super}
 use Rattle.spec_image.specs.Volume.{image_super}
 use Rattle.plain_image.specs.Plain.{IsReadFrom}
 use Rattle.plain_image.proofs.MetadataLemmas.{no_blocks, no_super, with_super}
@@ -18,5 +18,5 @@ returns-in_default c =
 pub returns : goal.returns
 returns c =
     let read : image_super c.args.image.now ≡ c.super_of_block.result = sym c.super_of_block.ensures.value in
-    subst (λ (w : Option Metadata). IfOk c.metadata_of_geometry.result (λ found. MatchOption found (w ≡ None) (IsReadFrom c.args.image.now w)))
+    subst (λ (w : Option Super). IfOk c.metadata_of_geometry.result (λ found. MatchOption found (w ≡ None) (IsReadFrom c.args.image.now w)))
     (with_super c.args.image.now c.in-Some.superblock (read ∙ c.in-Some.is)) c.metadata_of_geometry.ensures

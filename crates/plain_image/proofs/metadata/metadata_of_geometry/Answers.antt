@@ -1,14 +1,13 @@
 -- Each return is what the definition gives by the info, the superblock that was replayed and its
 -- geometry.
-use Rattle.std.proofs.Common.{◌≡◌, ◌<◌, ℕ, List, true, length, cond, [], Some, None, ap, sym, ◌∙◌, arith}
+use Rattle.std.proofs.Common.{◌≡◌, ◌<◌, ℕ, List, true, length, [], ap, sym, ◌∙◌, arith}
 use Rattle.std.proofs.lemmas.List.{get_or_default}
 use Rattle.spec_disk.specs.Disk.{block}
+use Rattle.spec_record.specs.declared.geometry.Geometry.{Geometry}
 use Rattle.spec_record.specs.declared.superblock.Super.{Super}
 use Rattle.spec_record.specs.Geometry.{meta_blocks}
 use Rattle.spec_record.specs.Superblock.{super_of}
 use Rattle.spec_image.specs.After.{after}
-use Rattle.spec_image.specs.Metadata.{metadata_in}
-use Rattle.spec_image.specs.WellFormed.{is_well_formed}
 use Rattle.spec_image.specs.Volume.{same_geometry}
 use Rattle.plain_image.proofs.MetadataLemmas.{length_after, same_is, no_replayed, moved, stayed}
 use Rattle.plain_image.proofs.metadata.metadata_of_geometry.Goals as goal
@@ -55,7 +54,6 @@ returns c =
         count = ap (length {A = List ℕ}) is ∙ length_after g image ∙ sym (ap meta_blocks (same_is s.geometry g same));
       };
       room = c.in-Some-super_of_block.ensures.ok.room;
-      value =
-          stayed g image c.in-Some.info (sym c.info_in.ensures.value ∙ c.in-Some.is) s (front ∙ c.in-Some-super_of_block.is) same
-          ∙ ap (λ (bs : List (List ℕ)). cond (is_well_formed (metadata_in s bs)) (Some (metadata_in s bs)) None) (sym is);
+      superblock = stayed g image c.in-Some.info (sym c.info_in.ensures.value ∙ c.in-Some.is) s (front ∙ c.in-Some-super_of_block.is) same;
+      items = is ∙ ap (λ (x : Geometry). after x image) (sym (same_is s.geometry g same));
     }
