@@ -1,7 +1,6 @@
 //! The chain of nodes from an inode by its definition, one test after another.
 
 ghost use Rattle.std.specs.Prelude.{◌≡◌, ◌≤◌, ◌<◌, ◌^◌, ◌-◌, [], ◌∷◌, ◌++◌, length, take, IfOk};
-ghost use Rattle.spec_record.specs.Extent.{is_extent};
 ghost use Rattle.spec_record.specs.Node.{nodes_for};
 ghost use Rattle.spec_image.specs.Chain.{wants, lengths, check_extents, check_counts};
 ghost use Rattle.spec_image.specs.Chain.{first_extent, follow, walk, chain};
@@ -9,6 +8,7 @@ ghost use Rattle.plain_image.specs.Plain.{metadata_read, HasBlocks};
 ghost use Rattle.plain_image.specs.PlainChain.{walked, chained, tested_container, tested_inode};
 ghost use Rattle.plain_image.specs.PlainChain.{end_of_walk, with_sum};
 
+use crate::extents::fits;
 use crate::metadata::{MetadataBlocks, node_at};
 use bv_merkle::blocks_needed_of;
 use spec_record::{Container, Extent, Inode, Node, NodeFault};
@@ -38,13 +38,6 @@ pub struct ChainedBlob {
 struct Walked {
     extents: Vec<Extent>,
     nodes: Vec<u32>,
-}
-
-fn fits(blocks: u64, extent: &Extent) -> bool
-    ensures { result ≡ is_extent blocks extent.now }
-{
-    let few = 1 <= extent.start && 1 <= extent.len && extent.len <= 65_535;
-    few && extent.start <= blocks && extent.len <= blocks - extent.start
 }
 
 /// Whether the extents of a node are in their ranges, or the first that isn't.

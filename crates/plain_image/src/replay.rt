@@ -88,8 +88,8 @@ fn first_entry(
     Ok(Some(Accepted { number, targets }))
 }
 
-/// The entry of a number at a slot of the ring, or none.
-fn accepted_at(
+/// The entry of a number at a slot of the ring of a volume with so many metadata blocks, or none.
+pub fn entry_from(
     alloc: Global,
     ring: &[Block],
     slot: usize,
@@ -160,7 +160,7 @@ pub fn replay_of(
     let mut number = info.number;
     let mut room = ring.len();
     for _count in 0..ring.len() {
-        let Some(entry) = accepted_at(alloc, ring, slot, number, meta)? else {
+        let Some(entry) = entry_from(alloc, ring, slot, number, meta)? else {
             break;
         };
         let slots = entry.targets.len() + 2;
