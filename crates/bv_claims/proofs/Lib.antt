@@ -3,6 +3,7 @@ pub mod Marks
 pub mod Sums
 pub mod Moves
 pub mod Bosses
+pub mod Runs
 pub mod CallerLemmas
 pub mod Opening
 pub mod Searches

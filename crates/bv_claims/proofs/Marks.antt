@@ -87,13 +87,13 @@ pub clear_of_one : (b c k : ℕ) → k + 2 ^ (b % 64) ≡ 2 ^ 64 - 1 → k + 2 ^
 clear_of_one b c k e e' word = set_of_one b c (2 ^ (b % 64)) refl (omega arith) word
 
 -- the blocks from b on, n of them
-times-consecutive : (c b n : ℕ) → 0 < times c (consecutive b n) → (b ≤ c) × (c < b + n)
+pub times-consecutive : (c b n : ℕ) → 0 < times c (consecutive b n) → (b ≤ c) × (c < b + n)
 times-consecutive c b zero h = absurd (omega arith)
 times-consecutive c b (suc n) h = dite (ℕ_discrete b c)
     (λ e. (omega arith, omega arith))
     (λ ne. let r = times-consecutive c (b + 1) n (grind (arith, nat_tests)) in (omega arith, omega arith))
 
-in_consecutive : (c b n : ℕ) → b ≤ c → c < b + n → 0 < times c (consecutive b n)
+pub in_consecutive : (c b n : ℕ) → b ≤ c → c < b + n → 0 < times c (consecutive b n)
 in_consecutive c b zero low high = absurd (omega arith)
 in_consecutive c b (suc n) low high = dite (ℕ_discrete b c)
     (λ e. grind (arith, nat_tests))

@@ -29,8 +29,8 @@ pub struct Boss {
 }
 
 impl Boss {
-    ghost use Rattle.std.specs.Prelude.{◌≡◌, ℕ, ◌+◌, ◌-◌, ◌<◌, ◌≤◌, [], ◌∷◌, ◌++◌, IfOk, OnOk, OnErr, length, vec_len};
-    ghost use Rattle.bv_claims.specs.Blocks.{times, without, HaveSameBlocks, IsPartOf, Rises};
+    ghost use Rattle.std.specs.Prelude.{◌≡◌, ℕ, ◌+◌, ◌-◌, ◌<◌, ◌≤◌, [], ◌∷◌, ◌++◌, IsOk, IfOk, OnErr, length, vec_len};
+    ghost use Rattle.bv_claims.specs.Blocks.{times, without, consecutive, HaveSameBlocks, IsPartOf, Rises};
     ghost use Rattle.bv_claims.specs.Tokens.{block_count, boss_owned, boss_room, grant_need, grant_start, claimed_gained, claimed_left, IsBossOf, IsGrantOf, IsClaimedOf};
 
     /// How many blocks the boss may still give out.
@@ -66,8 +66,8 @@ impl Boss {
         Ok(Grant { seat, tally, start })
     }
 
-    /// Makes blocks that nobody owns the boss's own, while no grant is out. It takes no memory; the
-    /// `Err` is for a table that would list them.
+    /// Makes blocks that nobody owns the boss's own, while no grant is out. It takes no memory and
+    /// always answers Ok: `Err` and `alloc` are for a table that would list the blocks.
     pub fn hold(
         &mut self,
         _alloc: Global,
@@ -81,15 +81,33 @@ impl Boss {
         requires blocks { (b : ℕ) → 0 < times b blocks.now
             → (1 ≤ b) × (b < block_count claims.now)
             × (times b (boss_owned self.old ++ blocks.now) ≡ 1) }
+        ensures ok { IsOk result }
         ensures table { IsBossOf claims.now self.new }
-        ensures ok { OnOk result ((boss_owned self.new ≡ boss_owned self.old ++ blocks.now)
-            × (boss_room self.new + length blocks.now ≡ boss_room self.old)) }
-        ensures err { OnErr result (self.new ≡ self.old) }
+        ensures owned { boss_owned self.new ≡ boss_owned self.old ++ blocks.now }
+        ensures room { boss_room self.new + length blocks.now ≡ boss_room self.old }
     {
         for block in blocks {
             self.hold_one(claims, *block);
         }
         Ok(())
+    }
+
+    /// Makes the `len` blocks from `start` on, which nobody owns, the boss's own, while no grant is
+    /// out. It takes no memory.
+    pub fn hold_run(&mut self, claims: &Claims, start: u64, len: u64)
+        requires table { IsBossOf claims.now self.old }
+        requires idle { length (boss_owned self.old) + boss_room self.old + 1
+            ≡ block_count claims.now }
+        requires run { (1 ≤ start) × (start + len ≤ block_count claims.now) }
+        requires nobodys { (b : ℕ) → start ≤ b → b < start + len
+            → times b (boss_owned self.old) ≡ 0 }
+        ensures table { IsBossOf claims.now self.new }
+        ensures owned { boss_owned self.new ≡ boss_owned self.old ++ consecutive start len }
+        ensures room { boss_room self.new + len ≡ boss_room self.old }
+    {
+        for block in start..start + len {
+            self.hold_one(claims, block);
+        }
     }
 
     // One block that nobody owns.
@@ -136,6 +154,20 @@ impl Boss {
     {
         for block in blocks {
             self.free_one(claims, *block);
+        }
+    }
+
+    /// Frees the `len` blocks from `start` on, which are the boss's. It takes no memory.
+    pub fn free_run(&mut self, claims: &Claims, start: u64, len: u64)
+        requires table { IsBossOf claims.now self.old }
+        requires owned { IsPartOf (consecutive start len) (boss_owned self.old) }
+        ensures table { IsBossOf claims.now self.new }
+        ensures owned { HaveSameBlocks (boss_owned self.old)
+            (boss_owned self.new ++ consecutive start len) }
+        ensures room { boss_room self.new ≡ boss_room self.old + len }
+    {
+        for block in start..start + len {
+            self.free_one(claims, block);
         }
     }
 

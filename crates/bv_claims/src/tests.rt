@@ -222,12 +222,15 @@ fn check_order(rt: &impl Abort, alloc: Global, row: &Order) -> Result<(), Fail> 
 }
 
 #[test]
-fn blocks_that_are_held_leave_the_room(rt: HostRuntime) -> Result<(), Fail> {
+fn blocks_that_are_held_leave_the_room_until_they_are_freed(rt: HostRuntime) -> Result<(), Fail> {
     let (claims, mut boss) = Claims::new(rt.alloc(), 9)?;
     boss.hold(rt.alloc(), &claims, &[2, 5])?;
     assert_eq!(rt; boss.room(), 6);
-    let rest = granted(&rt, rt.alloc(), &claims, &mut boss, 6, 1);
+    boss.hold_run(&claims, 6, 3);
+    assert_eq!(rt; boss.room(), 3);
+    boss.free_run(&claims, 7, 2);
+    let rest = granted(&rt, rt.alloc(), &claims, &mut boss, 5, 1);
     let rest = boss.take(&claims, claims.claim(rest));
-    assert_eq!(rt; rest.as_slice(), [1, 3, 4, 6, 7, 8].as_slice());
+    assert_eq!(rt; rest.as_slice(), [1, 3, 4, 7, 8].as_slice());
     Ok(())
 }
