@@ -21,7 +21,7 @@ calls-append : {T U E F : Type 0} (r : Result T E) (v : U) (m n before mid now :
 calls-append (Ok w) v m n before mid now first second = record { later = omega (arith, first.later, second.later); ok = omega (arith, first.ok, second.ok); err = tt }
 calls-append (Err x) v m n before mid now first second = record { later = omega (arith, first.later, second.later); ok = tt; err = omega (arith, first.ok, second.err) }
 
-faults-append : {T U E F : Type 0} (r : Result T E) (v : U) (before mid now : ℕ) → CountsFaults {T = U} {E = F} before mid (Ok v) → CountsFaults mid now r → CountsFaults before now r
+pub faults-append : {T U E F : Type 0} (r : Result T E) (v : U) (before mid now : ℕ) → CountsFaults {T = U} {E = F} before mid (Ok v) → CountsFaults mid now r → CountsFaults before now r
 faults-append (Ok w) v before mid now first second = record { later = omega (arith, first.later, second.later); failed = tt; kept = second.kept ∙ first.kept }
 faults-append (Err x) v before mid now first second = record { later = omega (arith, first.later, second.later); failed = omega (arith, first.kept, second.failed); kept = tt }
 

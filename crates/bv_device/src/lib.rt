@@ -16,7 +16,10 @@ mod writing;
 pub use call_kind::CallKind;
 pub use device::{Device, LAST_CALL};
 pub use failed::Failed;
-pub use laws::{a_run_leaves_what_its_plan_leaves, plans_are_joined, what_is_told_goes_on};
+pub use laws::{
+    a_run_leaves_what_its_plan_leaves, plans_are_joined, runs_that_only_read_are_joined,
+    what_is_told_goes_on,
+};
 pub use lie::Lie;
 pub use lying::LyingDevice;
 pub use memory::MemDevice;

@@ -1,8 +1,6 @@
 //! Runs of the devices in memory with ample memory, and what stops of them leave.
 
-use crate::{
-    Block, CallKind, Device, Event, Failed, Lie, LyingDevice, MemDevice, write_all, write_copies,
-};
+use crate::{Block, CallKind, Device, Event, Failed, Lie, LyingDevice, MemDevice};
 use std::alloc::Global;
 use std::test::Fail;
 
@@ -120,38 +118,6 @@ fn a_stop_leaves_what_the_choice_takes(rt: HostRuntime) -> Result<(), Fail> {
             "row {row}"
         );
         assert_eq!(rt; (left.calls(), left.faults()), (0, 0), "row {row}");
-    }
-    Ok(())
-}
-
-#[test]
-fn several_writes_stop_at_the_first_that_fails(rt: HostRuntime) -> Result<(), Fail> {
-    let alloc = rt.alloc();
-    // the write that fails (0: none), and the first bytes of the five blocks afterwards
-    let rows = [
-        (6, [1, 2, 9, 9, 9]),
-        (5, [1, 2, 9, 9, 0]),
-        (2, [1, 0, 9, 9, 9]),
-        (1, [0, 0, 9, 9, 9]),
-    ];
-    for (nth, wanted) in rows {
-        let mut dev = MemDevice::from_blocks(alloc, vec![in alloc; [0u8; 8192]; 5]?);
-        dev.fail(alloc, CallKind::Write, nth)?;
-        if dev.blocks() == 5 {
-            let first = write_all(&mut dev, 0, &[[1u8; 8192], [2u8; 8192]]);
-            assert_eq!(rt; first.is_err(), nth <= 2, "at {nth}");
-        }
-        if dev.blocks() == 5 {
-            let second = write_copies(&mut dev, 2, 3, &[9u8; 8192]);
-            assert_eq!(rt; second.is_err(), nth == 5, "at {nth}");
-        }
-        for (at, byte) in wanted.iter().enumerate() {
-            assert_eq!(rt;
-                get(&mut dev, at as u64).map(|b| b[77]),
-                Ok(*byte),
-                "at {nth}"
-            );
-        }
     }
     Ok(())
 }
