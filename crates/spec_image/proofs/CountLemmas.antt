@@ -10,14 +10,14 @@ use Rattle.spec_image.specs.WellFormed.{read_of, records_below, records_of, coun
 use Rattle.spec_image.specs.WellFormedParts.{WellFormed, is_used}
 use Rattle.spec_image.proofs.ChainLemmas.{AllVisited, chain_nodes}
 
-abbrev count : Bool → ℕ
+abbrev pub count : Bool → ℕ
 count b = cond b 1 0
 
 -- every inode below n has a chain that reads
 abbrev ChainsRead : Nodes → ℕ → ℕ → Type 0
 ChainsRead ns blocks n = (k : ℕ) → k < n → is_inode (ns.read k) ≡ true → IsOk (chain ns blocks k)
 
-true_or_false : (b : Bool) → (b ≡ true) ⊎ (b ≡ false)
+pub true_or_false : (b : Bool) → (b ≡ true) ⊎ (b ≡ false)
 true_or_false true = inl refl
 true_or_false false = inr refl
 
@@ -41,16 +41,16 @@ inode_count ns blocks (suc n) reads =
 
 -- ---- sums over numbers
 
-unfoldable sum_below : ℕ → (ℕ → ℕ) → ℕ
+unfoldable pub sum_below : ℕ → (ℕ → ℕ) → ℕ
 sum_below zero f = 0
 sum_below (suc n) f = sum_below n f + f n
 
-sum_add : (n : ℕ) (f g h : ℕ → ℕ) → ((k : ℕ) → k < n → h k ≡ f k + g k) → sum_below n h ≡ sum_below n f + sum_below n g
+pub sum_add : (n : ℕ) (f g h : ℕ → ℕ) → ((k : ℕ) → k < n → h k ≡ f k + g k) → sum_below n h ≡ sum_below n f + sum_below n g
 unfolding sum_below
 sum_add zero f g h e = refl
 sum_add (suc n) f g h e = omega (arith, sum_add n f g h (λ k lt. e k (omega arith)), e n (omega arith))
 
-sum_zero : (n : ℕ) → sum_below n (λ _. 0) ≡ 0
+pub sum_zero : (n : ℕ) → sum_below n (λ _. 0) ≡ 0
 unfolding sum_below
 sum_zero zero = refl
 sum_zero (suc n) = omega (arith, sum_zero n)
@@ -86,7 +86,7 @@ sum_one (suc n) x lt =
 
 -- ---- nodes
 
-AllBelow : ℕ → List ℕ → Type 0
+unfoldable pub AllBelow : ℕ → List ℕ → Type 0
 AllBelow n [] = Unit {0}
 AllBelow n (x ∷ xs) = (x < n) × AllBelow n xs
 
@@ -96,7 +96,7 @@ sum_list n [] all = sum_zero n
 sum_list n (x ∷ xs) all =
     omega (arith, sum_add n (λ k. count (eqb x k)) (λ k. count_by (λ y. eqb y k) xs) (λ k. count_by (λ y. eqb y k) (x ∷ xs)) (λ k lt. sum_by-cons (λ y. count (eqb y k)) x xs), sum_one n x all.0, sum_list n xs all.1)
 
-AllNodesBelow : ℕ → List BlobRecord → Type 0
+unfoldable pub AllNodesBelow : ℕ → List BlobRecord → Type 0
 AllNodesBelow n [] = Unit {0}
 AllNodesBelow n (b ∷ bs) = AllBelow n b.nodes × AllNodesBelow n bs
 
@@ -123,7 +123,7 @@ read_below ns blocks k (Ok b) lt e =
     (subst (AllBelow ns.count) c.nodes (lt, visited_below ns c.rest c.visited), tt)
 read_below ns blocks k (Err f) lt e = tt
 
-records_nodes : (ns : Nodes) (blocks n : ℕ) → n ≤ ns.count → AllNodesBelow ns.count (records_below ns blocks n)
+pub records_nodes : (ns : Nodes) (blocks n : ℕ) → n ≤ ns.count → AllNodesBelow ns.count (records_below ns blocks n)
 unfolding records_below AllNodesBelow
 records_nodes ns blocks zero le = tt
 records_nodes ns blocks (suc n) le =
@@ -195,7 +195,7 @@ in_chains ns blocks k (suc n) not_one reads =
     split false k n = grind arith
 
 -- each node stands in as many chains as it is in use
-used_once : (m : Metadata) → WellFormed m → (k : ℕ) → k < m.nodes.count → chains_with (records_of m) k ≡ count (is_used m k)
+pub used_once : (m : Metadata) → WellFormed m → (k : ℕ) → k < m.nodes.count → chains_with (records_of m) k ≡ count (is_used m k)
 used_once m w k lt =
     elim (true_or_false (is_container (m.nodes.read k))) [
       | inl is_one ↦ w.containers k lt is_one ∙ sym (ap count (either_true (is_inode (m.nodes.read k)) (is_container (m.nodes.read k)) is_one))
