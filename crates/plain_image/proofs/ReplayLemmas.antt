@@ -22,11 +22,6 @@ use Rattle.spec_image.specs.Replay.{slots_of_all, onto, entries_from, replay_at}
 use Rattle.spec_image.proofs.EntryLemmas.{count_of, entry_read, read_slots}
 use Rattle.spec_image.proofs.ReplayLemmas.{onto_first, slots_more}
 
--- an option that was found, or not
-pub not_some : {X : Type 0} (o : Option X) → is_some o ≡ false → o ≡ None
-not_some None no_value = refl
-not_some (Some x) no_value = absurd cc
-
 module _ {X Y : Type 0} (o : Option X) (wanted : Option Y) (value : X → Y) (found : MatchOption o (wanted ≡ None) (λ x. wanted ≡ Some (value x))) where
   AsWanted : Option X → Type 0
   AsWanted p = MatchOption p (wanted ≡ None) (λ x. wanted ≡ Some (value x))
@@ -38,54 +33,6 @@ module _ {X Y : Type 0} (o : Option X) (wanted : Option Y) (value : X → Y) (fo
   pub found_some : (x : X) → o ≡ Some x → wanted ≡ Some (value x)
   unfolding AsWanted
   found_some x some = subst AsWanted some found
-
--- the payload at a place, and those behind it
-pub targets_more : (header : List ℕ) (payloads : List (List ℕ)) (place : ℕ) → place < length payloads
-    → targets_in header place (drop place payloads) ≡ (target_in header place, restored (flag_in header place) (get_or payloads place [])) ∷ targets_in header (place + 1) (drop (place + 1) payloads)
-targets_more header payloads place lt =
-    let next : suc place ≡ place + 1 = omega arith in
-    let payload = get_or payloads place [] in
-    ap (targets_in header place) (drop-cons payloads place [] lt ∙ ap (λ (k : ℕ). payload ∷ drop k payloads) next)
-
-pub targets_pushed : (header : List ℕ) (payloads : List (List ℕ)) (place target : ℕ) (payload : List ℕ) (before after all : List (ℕ × List ℕ)) → place < length payloads
-    → target ≡ target_in header place → payload ≡ restored (flag_in header place) (get_or payloads place [])
-    → after ≡ before ++ (target, payload) ∷ [] → before ++ targets_in header place (drop place payloads) ≡ all
-    → after ++ targets_in header (place + 1) (drop (place + 1) payloads) ≡ all
-targets_pushed header payloads place target payload before after all lt target_is payload_is pushed so_far =
-    let rest = targets_in header (place + 1) (drop (place + 1) payloads) in
-    let here : (target, payload) ∷ rest ≡ targets_in header place (drop place payloads) =
-    ap (λ (t : ℕ). (t, payload) ∷ rest) target_is ∙ ap (λ (b : List ℕ). (target_in header place, b) ∷ rest) payload_is ∙ sym (targets_more header payloads place lt) in
-    ap (λ (ts : List (ℕ × List ℕ)). ts ++ rest) pushed
-    ∙ append_assoc before ((target, payload) ∷ []) rest
-    ∙ ap (λ (ts : List (ℕ × List ℕ)). before ++ ts) here
-    ∙ so_far
-
--- blocks without a fault begin with an entry
-pub record Whole (blocks : List (List ℕ)) (number meta : ℕ) : Type 0 where
-  pub room : field (block_in blocks 0) 32 8 < length blocks
-  pub places : field (block_in blocks 0) 32 8 ≤ meta
-  pub number_is : field (block_in blocks 0) 8 8 ≡ number
-  pub value : entry_of blocks number meta ≡ Some (entry_in blocks)
-
-without_fault : (r : Result Entry EntryFault) → result_err r ≡ None → (e : Entry) × (result_ok r ≡ Some e)
-without_fault (Ok e) none = (e, refl)
-without_fault (Err fault) none = absurd cc
-
-pub whole : (blocks : List (List ℕ)) (number meta : ℕ) → result_err (entry_or_fault blocks number meta) ≡ None → Whole blocks number meta
-unfolding count_of
-whole blocks number meta none =
-    let e = without_fault (entry_or_fault blocks number meta) none in
-    let r = entry_read blocks number meta e.0 e.1 in
-    let slots = read_slots blocks number meta e.0 r in
-    let count = field (block_in blocks 0) 32 8 in
-    let counted = both_true (is_between 1 count meta) (leb (count + 2) (length blocks)) r.tests.1.1.1.0 in
-    let found = field (block_in blocks 0) 8 8 in
-    record {
-      room = omega (arith, slots.0, slots.1);
-      places = at_most count meta (both_true (leb 1 count) (leb count meta) counted.0).1;
-      number_is = equal found number (both_true (eqb found number) (is_between 1 number (2 ^ 62 - 1)) r.tests.1.0).0;
-      value = e.1 ∙ ap (λ (x : Entry). Some x) (sym r.value);
-    }
 
 -- one number more, of those that are kept
 module _ (p : ℕ → Bool) (f : ℕ → ℕ) (k : ℕ) (before : List ℕ) (so_far : before ≡ filter p (map f (range_with_len 0 k))) where

@@ -4,6 +4,7 @@ ghost use Rattle.std.specs.Prelude.{◌≡◌, ◌+◌, ◌<◌, ◌≤◌, ◌^
 ghost use Rattle.std.specs.Prelude.{All, Contains, IfOk, IfSome, IsTrue, Some};
 ghost use Rattle.spec_disk.specs.Disk.{block};
 ghost use Rattle.spec_record.specs.Entry.{Entry};
+ghost use Rattle.spec_record.specs.Tests.{IsBetween};
 ghost use Rattle.spec_record.specs.Geometry.{IsGeometry, total_blocks};
 ghost use Rattle.spec_image.specs.Journal.{journal_of, journal_with};
 ghost use Rattle.spec_image.specs.Chance.{placed_at, Accepts, SameSlots, NoChance};
@@ -41,7 +42,7 @@ fn placed_entries(
 ) -> Result<Vec<Placed>, AllocError>
     requires start { info.start < length ring.now }
     requires numbers { info.number + length ring.now < 2 ^ 63 }
-    requires places { meta ≤ 679 }
+    requires places { IsBetween 1 meta 679 }
     ensures { let j = journal_with info ring.now meta in IfOk result (λ placed.
         map placed_entry placed.items ≡ placed_at j (Some info)) }
 {

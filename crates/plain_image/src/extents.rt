@@ -3,7 +3,8 @@
 ghost use Rattle.std.specs.Prelude.{◌≡◌};
 ghost use Rattle.spec_record.specs.Extent.{is_extent, extent_of};
 
-use spec_record::{Extent, field_of};
+use bv_bytes::Field;
+use spec_record::Extent;
 
 /// Whether an extent is one of a volume with so many data blocks.
 pub(crate) fn fits(blocks: u64, extent: &Extent) -> bool
@@ -17,7 +18,7 @@ pub(crate) fn fits(blocks: u64, extent: &Extent) -> bool
 pub fn extent_from(bytes: &[u8; 8], blocks: u64) -> Option<Extent>
     ensures { result ≡ extent_of bytes.now blocks }
 {
-    let number = field_of(bytes, 0, 8);
+    let number = Field::<0, 8>::get(bytes);
     let extent = Extent {
         start: number % (1 << 48),
         len: number / (1 << 48),

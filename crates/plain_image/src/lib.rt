@@ -10,6 +10,7 @@ mod chances;
 mod extents;
 mod fetching;
 mod metadata;
+mod node;
 mod records;
 mod replay;
 mod soundness;
@@ -35,5 +36,3 @@ mod chance_tests;
 mod image_tests;
 #[cfg(test)]
 mod tests;
-#[cfg(test)]
-mod verifying_tests;

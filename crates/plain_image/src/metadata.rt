@@ -15,9 +15,12 @@ ghost use Rattle.plain_image.specs.Plain.{metadata_read, HasBlocks, IsReadFrom};
 ghost use Rattle.plain_image.specs.Plain.{read_super_with, read_super};
 
 use crate::after::replayed_blocks;
+use crate::node::node_from;
 use crate::replay::replay_of;
+use bv_entry::read_info;
+use bv_layout::read_super;
 use spec_disk::Block;
-use spec_record::{Geometry, Info, Node, NodeFault, Super, info_from, node_from, super_from};
+use spec_record::{Geometry, Info, Node, NodeFault, Super};
 use std::alloc::{AllocError, Global};
 
 /// The metadata blocks of an image with its journal replayed, and what block 0 of them says.
@@ -69,7 +72,7 @@ pub(crate) fn super_of_block(block: &Block, device_blocks: u64) -> Option<Super>
     ensures value { result ≡ super_of block.now device_blocks }
     ensures ok { IfSome result (SpellsSuper block.now device_blocks) }
 {
-    super_from(block, device_blocks).ok()
+    read_super(block, device_blocks).ok()
 }
 
 /// What a block says as the info block of a ring of so many slots, or none.
@@ -77,7 +80,7 @@ fn info_of_block(block: &Block, slots: u64) -> Option<Info>
     ensures value { result ≡ info_of block.now slots }
     ensures ok { IfSome result (IsInfo slots) }
 {
-    info_from(block, slots).ok()
+    read_info(block, slots).ok()
 }
 
 /// What the info block of an image of this geometry says, or none.

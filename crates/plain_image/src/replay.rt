@@ -4,16 +4,18 @@
 
 ghost use Rattle.std.specs.Prelude.{◌≡◌, ◌+◌, ◌%◌, ◌<◌, ◌≤◌, ◌^◌, None, Some, length, map, filter, take, drop, IfOk, MatchOption};
 ghost use Rattle.std.specs.List.{range_with_len};
-ghost use Rattle.spec_record.specs.Field.{field};
+ghost use Rattle.spec_record.specs.Tests.{IsBetween};
 ghost use Rattle.spec_record.specs.Places.{block_in};
-ghost use Rattle.spec_record.specs.Entry.{targets_in, entry_of};
+ghost use Rattle.spec_record.specs.Entry.{entry_of};
 ghost use Rattle.spec_record.specs.EntryBlocks.{ring_from, entry_at};
 ghost use Rattle.spec_image.specs.Journal.{journal_with};
 ghost use Rattle.spec_image.specs.Replay.{replay, next_slot, next_number, is_stale_block, stale_slots};
 ghost use Rattle.plain_image.specs.Accepted.{accepted_entry};
 
+use bv_bytes::Field;
+use bv_entry::{Entry, ReadEntryFault, read_entry};
 use spec_disk::Block;
-use spec_record::{Info, field_of, first_entry_fault, flag_at, has_magic, restored_of, target_of};
+use spec_record::Info;
 use std::alloc::{AllocError, Global};
 
 /// An accepted entry: its number, and the new bytes of each metadata block that it names.
@@ -48,24 +50,13 @@ fn turned(alloc: Global, ring: &[Block], slot: usize) -> Result<Vec<Block>, Allo
     Ok(blocks)
 }
 
-/// The first targets of the entry with which blocks begin, restored.
-fn targets_of(
-    alloc: Global,
-    blocks: &[Block],
-    count: usize,
-) -> Result<Vec<(u64, Block)>, AllocError>
-    requires blocks { count < length blocks.now }
-    requires places { count ≤ 679 }
-    ensures { IfOk result (λ targets.
-        targets.items ≡ targets_in (block_in blocks.now 0) 0 (take count (drop 1 blocks.now))) }
+/// The parts of an entry that was read.
+fn parts_of(entry: Entry) -> Accepted
+    ensures { accepted_entry result ≡ entry }
 {
-    let header = &blocks[0];
-    let mut targets = Vec::new(alloc);
-    for place in 0..count {
-        let payload = restored_of(flag_at(header, place), &blocks[place + 1]);
-        targets.push((target_of(header, place), payload))?;
-    }
-    Ok(targets)
+    let number = entry.number();
+    let targets = entry.into_targets();
+    Accepted { number, targets }
 }
 
 /// The entry of a number with which blocks begin, or none.
@@ -76,16 +67,15 @@ fn first_entry(
     meta: u64,
 ) -> Result<Option<Accepted>, AllocError>
     requires some { 0 < length blocks.now }
-    requires places { meta ≤ 679 }
+    requires places { IsBetween 1 meta 679 }
     ensures { IfOk result (λ found. MatchOption found (entry_of blocks.now number meta ≡ None)
         (λ entry. entry_of blocks.now number meta ≡ Some (accepted_entry entry))) }
 {
-    if first_entry_fault(blocks, number, meta).is_some() {
-        return Ok(None);
+    match read_entry(alloc, blocks, number, meta) {
+        Ok(entry) => Ok(Some(parts_of(entry))),
+        Err(ReadEntryFault::Entry(_)) => Ok(None),
+        Err(ReadEntryFault::NoMemory) => Err(AllocError),
     }
-    let count = field_of(&blocks[0], 32, 8) as usize;
-    let targets = targets_of(alloc, blocks, count)?;
-    Ok(Some(Accepted { number, targets }))
 }
 
 /// The entry of a number at a slot of the ring of a volume with so many metadata blocks, or none.
@@ -97,18 +87,21 @@ pub fn entry_from(
     meta: u64,
 ) -> Result<Option<Accepted>, AllocError>
     requires slot { slot < length ring.now }
-    requires places { meta ≤ 679 }
+    requires places { IsBetween 1 meta 679 }
     ensures { IfOk result (λ found. MatchOption found (entry_at ring.now slot number meta ≡ None)
         (λ entry. entry_at ring.now slot number meta ≡ Some (accepted_entry entry))) }
 {
     first_entry(alloc, &turned(alloc, ring, slot)?, number, meta)
 }
 
+/// The number with which headers and commits begin.
+const MAGIC: u64 = 0x626c_6f62_6e74_7279;
+
 /// Whether a block looks like one of an entry of a number from this one on.
 fn is_stale(block: &Block, number: u64) -> bool
     ensures { result ≡ is_stale_block number block.now }
 {
-    has_magic(block) && number <= field_of(block, 8, 8)
+    Field::<0, 8>::get(block) == MAGIC && number <= Field::<8, 8>::get(block)
 }
 
 /// The stale slots among so many from a slot on, for the number that would stand there.
@@ -145,7 +138,7 @@ pub fn replay_of(
 ) -> Result<Replayed, AllocError>
     requires start { info.start < length ring.now }
     requires numbers { info.number + length ring.now < 2 ^ 63 }
-    requires places { meta ≤ 679 }
+    requires places { IsBetween 1 meta 679 }
     ensures entries { IfOk result (λ found.
         map accepted_entry found.entries.items ≡ replay (journal_with info ring.now meta)) }
     ensures slot { IfOk result (λ found.

@@ -14,4 +14,3 @@ pub mod ReadEntry
 pub mod SpelledEntry
 pub mod EntryLemmas
 pub mod PartLemmas
-pub mod PlainLemmas

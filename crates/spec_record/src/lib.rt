@@ -12,12 +12,6 @@ mod inode;
 mod laws;
 mod node;
 mod node_fault;
-mod plain_crc;
-mod plain_entry;
-mod plain_field;
-mod plain_info;
-mod plain_node;
-mod plain_super;
 mod super_fault;
 mod superblock;
 
@@ -39,14 +33,5 @@ pub use laws::{
 };
 pub use node::Node;
 pub use node_fault::NodeFault;
-pub use plain_crc::{after_bytes, crc_of};
-pub use plain_entry::{first_entry_fault, flag_at, has_magic, restored_of, stored_of, target_of};
-pub use plain_field::{field_of, first_set_of, is_zero};
-pub use plain_info::info_from;
-pub use plain_node::node_from;
-pub use plain_super::super_from;
 pub use super_fault::SuperFault;
 pub use superblock::Super;
-
-#[cfg(test)]
-mod tests;

@@ -18,10 +18,10 @@ read bytes blocks number fits is tested =
 
 pub returns-then-fits : goal.returns-then-fits
 returns-then-fits c =
-    let number = c.field_of-number.result in
-    sym (read c.args.bytes.now c.args.blocks number true (number_is c.args.bytes.now number (omega (arith, c.fits-bytes)) c.field_of-number.ensures.value) (sym c.fits.ensures ∙ c.if-fits.true))
+    let number = c.get-number.result in
+    sym (read c.args.bytes.now c.args.blocks number true (number_is c.args.bytes.now number (omega (arith, c.fits-bytes)) c.get-number.ensures.value) (sym c.fits.ensures ∙ c.if-fits.true))
 
 pub returns-else-fits : goal.returns-else-fits
 returns-else-fits c =
-    let number = c.field_of-number.result in
-    sym (read c.args.bytes.now c.args.blocks number false (number_is c.args.bytes.now number (omega (arith, c.fits-bytes)) c.field_of-number.ensures.value) (sym c.fits.ensures ∙ c.if-fits.false))
+    let number = c.get-number.result in
+    sym (read c.args.bytes.now c.args.blocks number false (number_is c.args.bytes.now number (omega (arith, c.fits-bytes)) c.get-number.ensures.value) (sym c.fits.ensures ∙ c.if-fits.false))

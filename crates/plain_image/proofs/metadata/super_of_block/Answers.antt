@@ -9,4 +9,4 @@ use Rattle.plain_image.proofs.metadata.super_of_block.Goals as goal
 pub returns-clause-ok : goal.returns-clause-ok
 returns-clause-ok c =
     super_spelled c.args.block.now c.args.device_blocks c.ok.result (record { length_is = search rules; bytes_fit = λ i. search rules })
-    (c.ok.ensures.value ∙ ap (result_ok {T = Super} {E = SuperFault}) c.super_from.ensures)
+    (c.ok.ensures.value ∙ ap (result_ok {T = Super} {E = SuperFault}) c.read_super.ensures.value)
