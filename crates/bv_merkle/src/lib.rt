@@ -15,6 +15,7 @@ pub use hasher::RootHasher;
 pub use hashing::block_digest;
 pub use rooting::root;
 pub use sizes::{blocks_needed, blocks_needed_of, levels, tree_blocks, tree_blocks_of, windows};
+pub use window::window_digests;
 pub use spec_tree::Digest;
 
 /// The bytes of a block.

@@ -20,7 +20,7 @@ const PLACE_LEN: usize = 8;
 /// The digests of the blocks of a window, which begins at this byte offset of the data.
 ///
 /// As many of the digests count as the bytes have blocks.
-pub(crate) fn window_digests(offset: u64, bytes: &[u8]) -> [Digest; 8]
+pub fn window_digests(offset: u64, bytes: &[u8]) -> [Digest; 8]
     requires offset { offset % 8192 ≡ 0 }
     requires fits { offset + length bytes.now < 2 ^ 64 }
     requires window { length bytes.now ≤ 65536 }

@@ -12,7 +12,7 @@ use Rattle.spec_record.specs.declared.geometry.Geometry.{Geometry}
 use Rattle.spec_record.specs.Geometry.{block_at}
 use Rattle.spec_image.specs.Chain.{BlobRecord}
 use Rattle.spec_image.specs.Metadata.{Metadata}
-use Rattle.spec_image.specs.Window.{Verifies}
+use Rattle.spec_window.specs.Window.{Verifies}
 use Rattle.spec_image.specs.Stored.{blocks_of, stored, fetched_bytes, fetched_path, AllVerify}
 use Rattle.spec_image.specs.WellFormed.{records_of}
 use Rattle.plain_image.specs.declared.blobs.Volume.{Volume}

@@ -4,7 +4,7 @@ use Rattle.std.specs.declared.alloc.Global.{Global}
 use Rattle.std.specs.declared.vec.Vec.{Vec}
 use Rattle.spec_tree.specs.declared.Digest.{Digest}
 use Rattle.spec_tree.specs.Tree.{block_digest, piece}
-use Rattle.spec_image.specs.Window.{index_above, used_places, path_block, wanted_digest}
+use Rattle.spec_window.specs.Window.{index_above, used_places, path_block, wanted_digest}
 
 -- the blocks of a path
 abbrev pub blocks_in : List (Vec ℕ Global) → List (List ℕ)

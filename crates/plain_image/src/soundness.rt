@@ -3,7 +3,7 @@
 ghost use Rattle.std.specs.Prelude.{◌≡◌, ◌≤◌, ◌<◌, ◌^◌, ◌↔◌, length, IsTrue, IfOk, All};
 ghost use Rattle.spec_record.specs.Extent.{IsExtent};
 ghost use Rattle.spec_record.specs.Geometry.{IsGeometry, total_blocks};
-ghost use Rattle.spec_image.specs.Window.{Verifies};
+ghost use Rattle.spec_window.specs.Window.{Verifies};
 ghost use Rattle.spec_image.specs.Stored as S;
 ghost use Rattle.spec_image.specs.Volume.{IsSound};
 ghost use Rattle.plain_image.specs.Plain.{blob_record};

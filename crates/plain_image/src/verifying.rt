@@ -3,7 +3,7 @@
 ghost use Rattle.std.specs.Prelude.{◌≡◌, ◌≤◌, ◌<◌, ◌+◌, ◌*◌, ◌^◌, ◌↔◌, ℕ, IsTrue, All};
 ghost use Rattle.std.specs.Prelude.{length, take, drop, max};
 ghost use Rattle.spec_tree.specs.Tree as T;
-ghost use Rattle.spec_image.specs.Window as W;
+ghost use Rattle.spec_window.specs.Window as W;
 ghost use Rattle.plain_image.specs.Verifying.{blocks_in, LeafFits, LevelFits, RestIsZero};
 
 use bv_merkle::{block_digest, levels, windows};

@@ -64,7 +64,7 @@ block-same a b level i two has same =
 -- ---- the blocks of a level
 
 -- each of n facts holds, or there is an exception
-each : (P : ℕ → Type 0) (C : Type 0) (n : ℕ) → ((i : ℕ) → i < n → P i ⊎ C)
+pub each : (P : ℕ → Type 0) (C : Type 0) (n : ℕ) → ((i : ℕ) → i < n → P i ⊎ C)
     → ((i : ℕ) → i < n → P i) ⊎ C
 each P C zero one = inl (λ i lt. absurd (omega (arith, lt)))
 each P C (suc n) one =
@@ -108,7 +108,7 @@ begin-same {A} m (suc n) xs ys same =
     ∙ ap (λ (l : List A). take (m * n) ys ++ l) (same n (omega arith))
     ∙ sym (take-add (m * n) m ys))
 
-pieces-same : {A : Type 0} (m n : ℕ) (xs ys : List A) → length xs ≡ length ys → length xs ≤ m * n
+pub pieces-same : {A : Type 0} (m n : ℕ) (xs ys : List A) → length xs ≡ length ys → length xs ≤ m * n
     → ((i : ℕ) → i < n → take m (drop (m * i) xs) ≡ take m (drop (m * i) ys)) → xs ≡ ys
 pieces-same m n xs ys long within same =
     sym (take_all (m * n) xs within)

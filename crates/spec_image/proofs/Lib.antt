@@ -2,9 +2,6 @@ pub mod ReplayLemmas
 pub mod SameLemmas
 pub mod EntryLemmas
 pub mod TornLemmas
-pub mod DigestBlockLemmas
-pub mod WholeLemmas
-pub mod HonestLemmas
 pub mod SoundLemmas
 pub mod SampleJournalLemmas
 pub mod SampleNodeLemmas

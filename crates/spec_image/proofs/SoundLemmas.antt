@@ -14,7 +14,7 @@ use Rattle.spec_image.specs.Metadata.{Metadata}
 use Rattle.spec_image.specs.WellFormed.{records_of}
 use Rattle.spec_image.specs.Stored.{stored, stored_data, bytes_in, tree_block, AllVerify}
 use Rattle.spec_image.specs.Volume.{metadata_of, blob_in, IsWhole, IsSound}
-use Rattle.spec_image.proofs.WholeLemmas.{whole_root}
+use Rattle.spec_window.proofs.WholeLemmas.{whole_root}
 
 is_Equal : (o : Ordering) → is_eq o ≡ true → o ≡ Equal
 is_Equal Less e = cc

@@ -1,4 +1,4 @@
--- Images of volumes: journals, chains, metadata, blobs, windows, and what a stop leaves by chance.
+-- Images of volumes: journals, chains, metadata, blobs, and what a stop leaves by chance.
 pub mod Same
 pub mod Journal
 pub mod Replay
@@ -9,8 +9,6 @@ pub mod Metadata
 pub mod Blobs
 pub mod WellFormed
 pub mod WellFormedParts
-pub mod Window
-pub mod Honest
 pub mod Stored
 pub mod Volume
 pub mod Chance

@@ -15,7 +15,7 @@ use Rattle.spec_record.specs.declared.geometry.Geometry.{Geometry}
 use Rattle.spec_record.specs.declared.extent.Extent.{Extent}
 use Rattle.spec_record.specs.Geometry.{block_at}
 use Rattle.spec_image.specs.Chain.{BlobRecord}
-use Rattle.spec_image.specs.Window.{window_bytes, index_above, used_places, Verifies}
+use Rattle.spec_window.specs.Window.{window_bytes, index_above, used_places, Verifies}
 
 -- the numbers of the data blocks in these extents, in order
 abbrev pub blocks_of : List Extent → List ℕ

@@ -20,8 +20,6 @@ ghost use Rattle.spec_image.specs.Blobs.{value_of, blob_map};
 ghost use Rattle.spec_image.specs.Chain.{BlobRecord};
 ghost use Rattle.spec_image.specs.Stored.{blocks_of, bytes_in};
 ghost use Rattle.spec_image.specs.Chance.{NoChance};
-ghost use Rattle.spec_image.specs.Honest.{window_of, path_of};
-ghost use Rattle.spec_image.specs.Window.{Verifies};
 ghost use Rattle.spec_image.specs.Metadata.{Metadata};
 ghost use Rattle.spec_image.specs.Torn.{TornAdd};
 ghost use Rattle.spec_image.specs.WellFormed.{is_well_formed};
@@ -66,13 +64,6 @@ pub fn a_torn_add_is_no_chance()
 pub fn an_image_without_entries_is_no_chance()
     ensures { (g : Geometry) (base : List (List ℕ)) (p : List Event) (j : List (List ℕ))
         → HasGeometry j g → replay (journal_of g j) ≡ [] → NoChance base p j }
-{}
-
-/// A window that is cut from a blob, with the blocks of digests that lie over it, verifies to the
-/// blob's root and size.
-pub fn an_honest_window_verifies()
-    ensures { (bytes : List ℕ) (w : ℕ) → w < windows_of (length bytes)
-        → Verifies (root_of bytes) (length bytes) w (window_of bytes w) (path_of bytes w) }
 {}
 
 /// Where each window of a blob verifies, its bytes have its root.

@@ -5,7 +5,7 @@ use Rattle.std.proofs.lemmas.List.FromFn.{map-range_with_len_more}
 use Rattle.std.specs.Prelude.{Vec}
 use Rattle.std.specs.List.{range_with_len}
 use Rattle.std.specs.declared.alloc.Global.{Global}
-use Rattle.spec_image.specs.Window.{index_above}
+use Rattle.spec_window.specs.Window.{index_above}
 use Rattle.spec_image.specs.Stored.{tree_block}
 use Rattle.plain_image.specs.Plain.{blob_record}
 use Rattle.plain_image.specs.Verifying.{blocks_in}

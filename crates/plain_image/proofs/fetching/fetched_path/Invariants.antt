@@ -1,6 +1,6 @@
 use Rattle.std.proofs.Common.{◌≡◌, map}
 use Rattle.std.specs.List.{range_with_len}
-use Rattle.spec_image.specs.Window.{index_above}
+use Rattle.spec_window.specs.Window.{index_above}
 use Rattle.spec_image.specs.Stored.{tree_block}
 use Rattle.plain_image.specs.Plain.{blob_record}
 use Rattle.plain_image.specs.Verifying.{blocks_in}

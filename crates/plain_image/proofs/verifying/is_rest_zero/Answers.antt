@@ -1,5 +1,5 @@
 use Rattle.std.proofs.Common.{◌≡◌, ◌*◌, ◌∙◌, ap, drop, ℕ}
-use Rattle.spec_image.specs.Window.{index_above, used_places, path_block}
+use Rattle.spec_window.specs.Window.{index_above, used_places, path_block}
 use Rattle.plain_image.specs.Verifying.{blocks_in}
 use Rattle.plain_image.proofs.VerifyingLemmas.{zero_rest}
 use Rattle.plain_image.proofs.verifying.is_rest_zero.Goals as goal
