@@ -219,16 +219,16 @@ module _ (g : Geometry) (j : List (List ℕ)) (lawful : IsGeometry g) (begins : 
       ∙ get_or-append_right node_part (info_bytes empty_info ∷ ring_part) (node_blocks g) (node_blocks g + i) [] long_nodes (omega arith)
       ∙ ap (λ (k : ℕ). get_or (info_bytes empty_info ∷ ring_part) k []) same
 
-  info_block : block j (info_at g) ≡ info_bytes empty_info
+  pub info_block : block j (info_at g) ≡ info_bytes empty_info
   info_block = past_nodes 0 (info_at g) (omega arith) (omega arith)
 
-  slot_block : (s : ℕ) → s < ring_slots g → block j (slot_at g s) ≡ zero_block
+  pub slot_block : (s : ℕ) → s < ring_slots g → block j (slot_at g s) ≡ zero_block
   slot_block s lt =
       past_nodes (suc s) (slot_at g s) (omega (arith, lt)) (omega arith) ∙ get_or-replicate (ring_slots g) s zero_block [] lt
 
   -- ---- the superblock and the journal
 
-  super_lawful : IsSuper (empty_super g)
+  pub super_lawful : IsSuper (empty_super g)
   super_lawful = record {
     geometry = lawful;
     blobs = omega arith;
@@ -263,7 +263,7 @@ module _ (g : Geometry) (j : List (List ℕ)) (lawful : IsGeometry g) (begins : 
       let same : (0 + 0) % length (ring_in g j) ≡ 0 = mod-eq_of_lt long_ring in
       ring_is_cyclic (ring_in g j) 0 0 long_ring ∙ ap (λ (k : ℕ). get_or (ring_in g j) k []) same ∙ ring_slot g j 0 (omega (arith, some_slots)) ∙ slot_block 0 (omega (arith, some_slots))
 
-  empty_replay : replay (journal_of g j) ≡ []
+  pub empty_replay : replay (journal_of g j) ≡ []
   unfolding journal_of
   empty_replay =
       no_replay (journal_of g j) empty_info info_is (no_entry (ring_from (ring_in g j) 0) 1 (meta_blocks g) (subst Zeros (sym first_slot) zeros_block))

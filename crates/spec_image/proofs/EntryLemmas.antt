@@ -21,7 +21,7 @@ abbrev pub count_in : List ℕ → ℕ
 count_in header = field header 32 8
 
 -- the tests of an entry, and its value, over the parts that they look at
-tests_of : List ℕ → Option ℕ → List ℕ → List (List ℕ) → ℕ → ℕ → ℕ → List (Bool × EntryFault)
+unfoldable pub tests_of : List ℕ → Option ℕ → List ℕ → List (List ℕ) → ℕ → ℕ → ℕ → List (Bool × EntryFault)
 tests_of header wrong commit front size number meta =
     let found = field header 8 8 in
     let kind = field header 16 8 in
@@ -38,17 +38,17 @@ tests_of header wrong commit front size number meta =
     ∷ (eqb stored sum, faults.Checksum stored sum)
     ∷ []
 
-value_of : List ℕ → List (List ℕ) → Entry
+unfoldable pub value_of : List ℕ → List (List ℕ) → Entry
 value_of header payloads = record { number = field header 8 8; targets = targets_in header 0 payloads }
 
 -- what is read of these parts
-read_of : List ℕ → Option ℕ → List ℕ → List (List ℕ) → List (List ℕ) → ℕ → ℕ → ℕ → Option Entry
+unfoldable pub read_of : List ℕ → Option ℕ → List ℕ → List (List ℕ) → List (List ℕ) → ℕ → ℕ → ℕ → Option Entry
 read_of header wrong commit front payloads size number meta = result_ok (value_or_fault (tests_of header wrong commit front size number meta) (value_of header payloads))
 
 unfoldable pub count_of : List (List ℕ) → ℕ
 count_of blocks = count_in (block_in blocks 0)
 
-reads_parts : (blocks : List (List ℕ)) (number meta : ℕ) → entry_of blocks number meta
+pub reads_parts : (blocks : List (List ℕ)) (number meta : ℕ) → entry_of blocks number meta
     ≡ read_of (block_in blocks 0) (wrong_place blocks meta) (block_in blocks (count_of blocks + 1)) (take (count_of blocks + 1) blocks) (take (count_of blocks) (drop 1 blocks)) (length blocks) number meta
 unfolding entry_or_fault read_of tests_of value_of count_of
 reads_parts blocks number meta = refl
@@ -92,7 +92,7 @@ ext f h same = λ i x. same x i
 abbrev pub AgreeBelow : ℕ → List (List ℕ) → List (List ℕ) → Type 0
 AgreeBelow n bs cs = (k : ℕ) → k < n → get_or bs k [] ≡ get_or cs k []
 
-take_same : (n : ℕ) (bs cs : List (List ℕ)) → length bs ≡ length cs → AgreeBelow n bs cs → take n bs ≡ take n cs
+pub take_same : (n : ℕ) (bs cs : List (List ℕ)) → length bs ≡ length cs → AgreeBelow n bs cs → take n bs ≡ take n cs
 take_same n bs cs long same =
     let as_long : length (take n bs) ≡ length (take n cs) = length-take n bs ∙ ap (min n) long ∙ sym (length-take n cs) in
     same_lists (take n bs) (take n cs) as_long (λ k d lt.
@@ -100,7 +100,7 @@ take_same n bs cs long same =
     let within : k < length bs = omega (arith, length-take n bs) in
     get_or-take n bs k d below ∙ get_or_default bs k d [] within ∙ same k below ∙ sym (get_or_default cs k d [] (omega (arith, within, long))) ∙ sym (get_or-take n cs k d below))
 
-drop_one_same : (n : ℕ) (bs cs : List (List ℕ)) → AgreeBelow (n + 1) bs cs → AgreeBelow n (drop 1 bs) (drop 1 cs)
+pub drop_one_same : (n : ℕ) (bs cs : List (List ℕ)) → AgreeBelow (n + 1) bs cs → AgreeBelow n (drop 1 bs) (drop 1 cs)
 drop_one_same n bs cs same k lt = get_or-drop 1 bs k [] ∙ same (1 + k) (omega (arith, lt)) ∙ sym (get_or-drop 1 cs k [])
 
 chosen_same : {A : Type 0} (place count : ℕ) (x y z : A) → (place < count → x ≡ y) → cond (ltb place count) x z ≡ cond (ltb place count) y z
@@ -110,7 +110,7 @@ chosen_same {A} place count x y z same =
       | inr ge ↦ let t : ltb place count ≡ false = grind (arith, ge) in rw t refl
     ]
 
-places_same : (bs cs : List (List ℕ)) (meta : ℕ) → AgreeBelow (count_in (block_in bs 0) + 2) bs cs → wrong_place bs meta ≡ wrong_place cs meta
+pub places_same : (bs cs : List (List ℕ)) (meta : ℕ) → AgreeBelow (count_in (block_in bs 0) + 2) bs cs → wrong_place bs meta ≡ wrong_place cs meta
 places_same bs cs meta same =
     let header : block_in bs 0 ≡ block_in cs 0 = same 0 (omega arith) in
     ap (λ (test : ℕ → Bool). first_failing test 0 header_places) (ext (is_place bs meta) (is_place cs meta) (λ place.
@@ -118,7 +118,7 @@ places_same bs cs meta same =
     (λ lt. ap (is_used_place (block_in bs 0) meta place) (same (place + 1) (omega (arith, lt))))
     ∙ ap (λ (h : List ℕ). cond (ltb place (count_in h)) (is_used_place h meta place (block_in cs (place + 1))) (is_unused_place h place)) header))
 
-parts_same : (bs cs : List (List ℕ)) (number meta : ℕ) → length bs ≡ length cs → AgreeBelow (count_in (block_in bs 0) + 2) bs cs → entry_of bs number meta ≡ entry_of cs number meta
+pub parts_same : (bs cs : List (List ℕ)) (number meta : ℕ) → length bs ≡ length cs → AgreeBelow (count_in (block_in bs 0) + 2) bs cs → entry_of bs number meta ≡ entry_of cs number meta
 unfolding count_of
 parts_same bs cs number meta long same =
     let n = count_of bs in

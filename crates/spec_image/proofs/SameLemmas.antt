@@ -24,7 +24,7 @@ ring_slot g image s lt =
     let e : slot_at g 0 + s ≡ slot_at g s = omega arith in
     get_or-take (ring_slots g) (drop (slot_at g 0) image) s [] lt ∙ get_or-drop (slot_at g 0) image s [] ∙ ap (λ (k : ℕ). get_or image k []) e
 
-ring_same : (g : Geometry) (a b : List (List ℕ)) → SameJournal g a b → ring_in g a ≡ ring_in g b
+pub ring_same : (g : Geometry) (a b : List (List ℕ)) → SameJournal g a b → ring_in g a ≡ ring_in g b
 ring_same g a b s =
     let long : length (ring_in g a) ≡ length (ring_in g b) =
     length-whole_ring g a s.first_whole ∙ sym (length-whole_ring g b s.second_whole) in

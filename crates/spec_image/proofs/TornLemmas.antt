@@ -49,37 +49,37 @@ super_long bytes n s is =
     let fits : total_blocks (super_in bytes).geometry ≤ n = at_most (total_blocks (super_in bytes).geometry) n r.0.1.1.1.1.1.1.1.1.1.1.1.1.0 in
     subst (λ (x : Super). total_blocks x.geometry ≤ n) r.1 fits
 
-to_some : {A B : Type 0} (o : Option A) (f : A → B) (b : B) (Q : B → Type 0) → IsSomeAnd o (λ x. f x ≡ b) → Q b → IsSomeAnd o (λ x. Q (f x))
+pub to_some : {A B : Type 0} (o : Option A) (f : A → B) (b : B) (Q : B → Type 0) → IsSomeAnd o (λ x. f x ≡ b) → Q b → IsSomeAnd o (λ x. Q (f x))
 to_some (Some x) f b Q e q = subst Q (sym e) q
 to_some None f b Q e q = absurd e
 
-from_some : {A B : Type 0} (o : Option A) (f : A → B) (b : B) (Q : B → Type 0) → IsSomeAnd o (λ x. f x ≡ b) → IsSomeAnd o (λ x. Q (f x)) → Q b
+pub from_some : {A B : Type 0} (o : Option A) (f : A → B) (b : B) (Q : B → Type 0) → IsSomeAnd o (λ x. f x ≡ b) → IsSomeAnd o (λ x. Q (f x)) → Q b
 from_some (Some x) f b Q e q = subst Q e q
 from_some None f b Q e q = absurd e
 
 -- a ring is whole
-abbrev HasRing : Geometry → List (List ℕ) → Type 0
+abbrev pub HasRing : Geometry → List (List ℕ) → Type 0
 HasRing g image = length (ring_in g image) ≡ ring_slots g
 
-has_total : (g : Geometry) (image : List (List ℕ)) → HasGeometry image g → total_blocks g ≤ length image
+pub has_total : (g : Geometry) (image : List (List ℕ)) → HasGeometry image g → total_blocks g ≤ length image
 has_total g image h =
     let s = some_and (image_super image) (λ x. x.geometry) g h in
     let fits : total_blocks (s.0).geometry ≤ length image = super_long (block image 0) (length image) s.0 s.1 in
     subst (λ (x : Geometry). total_blocks x ≤ length image) s.2 fits
 
-has_ring : (g : Geometry) (image : List (List ℕ)) → total_blocks g ≤ length image → HasRing g image
+pub has_ring : (g : Geometry) (image : List (List ℕ)) → total_blocks g ≤ length image → HasRing g image
 has_ring g image fits = length-whole_ring g image fits
 
 -- ---- slots
 
 -- a block of the ring, from a slot on
-slot_get : (g : Geometry) (image : List (List ℕ)) (slot k : ℕ) → HasRing g image → k < ring_slots g → get_or (ring_from (ring_in g image) slot) k [] ≡ slot_block g image slot k
+pub slot_get : (g : Geometry) (image : List (List ℕ)) (slot k : ℕ) → HasRing g image → k < ring_slots g → get_or (ring_from (ring_in g image) slot) k [] ≡ slot_block g image slot k
 slot_get g image slot k has lt =
     let below : (slot + k) % ring_slots g < ring_slots g = mod-lt (slot + k) (omega (arith, lt)) in
     ring_from_get (ring_in g image) slot k (omega (arith, lt, has)) ∙ ap (λ (n : ℕ). get_or (ring_in g image) ((slot + k) % n) []) has ∙ ring_slot g image ((slot + k) % ring_slots g) below
 
 -- images with the same blocks there have the same entry
-moved : (g : Geometry) (a b : List (List ℕ)) (slot number : ℕ) (e : Entry) → HasRing g a → HasRing g b → SameSlots g b a slot (entry_slots e)
+pub moved : (g : Geometry) (a b : List (List ℕ)) (slot number : ℕ) (e : Entry) → HasRing g a → HasRing g b → SameSlots g b a slot (entry_slots e)
     → entry_at (ring_in g a) slot number (meta_blocks g) ≡ Some e → entry_at (ring_in g b) slot number (meta_blocks g) ≡ Some e
 moved g a b slot number e has_a has_b same is =
     let from_a = ring_from (ring_in g a) slot in
@@ -123,23 +123,23 @@ unread g image slot number has u = unread_by g image slot number (entry_at (ring
 
 -- ---- what stays of the synced disk
 
-mod_shift : (slot n k len : ℕ) → ((slot + n) % len + k) % len ≡ (slot + (n + k)) % len
+pub mod_shift : (slot n k len : ℕ) → ((slot + n) % len + k) % len ≡ (slot + (n + k)) % len
 mod_shift slot n k len =
     let e : slot + n + k ≡ slot + (n + k) = omega arith in
     mod-add-mod (slot + n) len k ∙ ap (λ (x : ℕ). x % len) e
 
 -- slots that are one around the ring
-same_slots_at : (g : Geometry) (a b : List (List ℕ)) (x y n : ℕ) → x % ring_slots g ≡ y % ring_slots g → SameSlots g a b x n → SameSlots g a b y n
+pub same_slots_at : (g : Geometry) (a b : List (List ℕ)) (x y n : ℕ) → x % ring_slots g ≡ y % ring_slots g → SameSlots g a b x n → SameSlots g a b y n
 same_slots_at g a b x y n is same k lt =
     let m = ring_slots g in
     let e : (x + k) % m ≡ (y + k) % m = sym (mod-add-mod x m k) ∙ ap (λ (z : ℕ). (z + k) % m) is ∙ mod-add-mod y m k in
     ap (λ (z : ℕ). block a (slot_at g z)) (sym e) ∙ same k lt ∙ ap (λ (z : ℕ). block b (slot_at g z)) e
 
-entry_at_one : (ring : List (List ℕ)) (x y number meta : ℕ) → x % length ring ≡ y % length ring → entry_at ring x number meta ≡ entry_at ring y number meta
+pub entry_at_one : (ring : List (List ℕ)) (x y number meta : ℕ) → x % length ring ≡ y % length ring → entry_at ring x number meta ≡ entry_at ring y number meta
 entry_at_one ring x y number meta is = ap (λ (z : ℕ). entry_of (drop z ring ++ take z ring) number meta) is
 
 -- entries whose slots are the same stand in both images
-stand_same : (g : Geometry) (a b : List (List ℕ)) (slot number : ℕ) (es : List Entry) → HasRing g a → HasRing g b → SameSlots g b a slot (slots_of_all es)
+pub stand_same : (g : Geometry) (a b : List (List ℕ)) (slot number : ℕ) (es : List Entry) → HasRing g a → HasRing g b → SameSlots g b a slot (slots_of_all es)
     → StandFrom (journal_of g a) slot number es → StandFrom (journal_of g b) slot number es
 unfolding journal_of
 stand_same g a b slot number [] has_a has_b same stand = tt
@@ -156,7 +156,7 @@ stand_same g a b slot number (e ∷ es) has_a has_b same stand =
     (here, stand_same g a b ((slot + n) % length (ring_in g b)) (number + 1) es has_a has_b rest there)
 
 -- the slot after some entries, around the ring
-slot_after-mod : (j : Journal) (slot : ℕ) (es : List Entry) → slot_after j slot es % length j.ring ≡ (slot + slots_of_all es) % length j.ring
+pub slot_after-mod : (j : Journal) (slot : ℕ) (es : List Entry) → slot_after j slot es % length j.ring ≡ (slot + slots_of_all es) % length j.ring
 slot_after-mod j slot [] = let e : slot ≡ slot + 0 = omega arith in ap (λ (x : ℕ). x % length j.ring) e
 slot_after-mod j slot (e ∷ es) =
     let n = entry_slots e in
@@ -165,10 +165,10 @@ slot_after-mod j slot (e ∷ es) =
 
 -- ---- what is read behind it
 
-abbrev Read : Journal → ℕ → ℕ → Option Entry
+abbrev pub Read : Journal → ℕ → ℕ → Option Entry
 Read j slot number = entry_at j.ring slot number j.meta
 
-none_from : (j : Journal) (most room slot number : ℕ) → Read j slot number ≡ None → entries_from j most room slot number ≡ []
+pub none_from : (j : Journal) (most room slot number : ℕ) → Read j slot number ≡ None → entries_from j most room slot number ≡ []
 unfolding entries_from
 none_from j zero room slot number none = refl
 none_from j (suc most) room slot number none = ap (λ (o : Option Entry). onto o room (λ e. entries_from j most (room - entry_slots e) (slot_past j slot (entry_slots e)) (number + 1))) none
@@ -194,11 +194,11 @@ one_from j (suc most) room slot number e is none =
 
 -- ---- entries with their slots
 
-placed-append : (j : Journal) (slot : ℕ) (xs ys : List Entry) → placed_from j slot (xs ++ ys) ≡ placed_from j slot xs ++ placed_from j (slot_after j slot xs) ys
+pub placed-append : (j : Journal) (slot : ℕ) (xs ys : List Entry) → placed_from j slot (xs ++ ys) ≡ placed_from j slot xs ++ placed_from j (slot_after j slot xs) ys
 placed-append j slot [] ys = refl
 placed-append j slot (x ∷ xs) ys = ap (λ (l : List (ℕ × Entry)). (slot, x) ∷ l) (placed-append j (slot_past j slot (entry_slots x)) xs ys)
 
-placed_same : (a b : Journal) (slot : ℕ) (es : List Entry) → length a.ring ≡ length b.ring → placed_from a slot es ≡ placed_from b slot es
+pub placed_same : (a b : Journal) (slot : ℕ) (es : List Entry) → length a.ring ≡ length b.ring → placed_from a slot es ≡ placed_from b slot es
 placed_same a b slot [] long = refl
 placed_same a b slot (e ∷ es) long =
     let next : slot_past a slot (entry_slots e) ≡ slot_past b slot (entry_slots e) = ap (λ (n : ℕ). (slot + entry_slots e) % n) long in
@@ -207,16 +207,16 @@ placed_same a b slot (e ∷ es) long =
 -- ---- the torn add
 
 -- which slots an image's replay accepts, for its geometry
-abbrev AcceptsIn : Geometry → List (List ℕ) → ℕ → Entry → Type 0
+abbrev pub AcceptsIn : Geometry → List (List ℕ) → ℕ → Entry → Type 0
 AcceptsIn g image slot e = Contains (placed_at (journal_of g image) (journal_of g image).info) (slot, e)
 
-accepts_in : (g : Geometry) (image : List (List ℕ)) (slot : ℕ) (e : Entry) → HasGeometry image g → Accepts image slot e → AcceptsIn g image slot e
+pub accepts_in : (g : Geometry) (image : List (List ℕ)) (slot : ℕ) (e : Entry) → HasGeometry image g → Accepts image slot e → AcceptsIn g image slot e
 accepts_in g image slot e has a = from_some (image_super image) (λ s. s.geometry) g (λ x. AcceptsIn x image slot e) has a
 
-accepts : (g : Geometry) (image : List (List ℕ)) (slot : ℕ) (e : Entry) → HasGeometry image g → AcceptsIn g image slot e → Accepts image slot e
+pub accepts : (g : Geometry) (image : List (List ℕ)) (slot : ℕ) (e : Entry) → HasGeometry image g → AcceptsIn g image slot e → Accepts image slot e
 accepts g image slot e has a = to_some (image_super image) (λ s. s.geometry) g (λ x. AcceptsIn x image slot e) has a
 
-mod_twice : (x m : ℕ) → x % m % m ≡ x % m
+pub mod_twice : (x m : ℕ) → x % m % m ≡ x % m
 mod_twice x m =
     let a : x % m + 0 ≡ x % m = omega arith in
     let b : x + 0 ≡ x = omega arith in
@@ -238,13 +238,13 @@ slot_behind a b i = slot_after b i.start (replay a)
 abbrev pub rest_of : Journal → Journal → Info → List Entry
 rest_of a b i = entries_from b (length b.ring - length (replay a)) (length b.ring - slots_of_all (replay a)) (slot_behind a b i) (i.number + length (replay a))
 
-replay_goes_on : (a b : Journal) (i : Info) → Behind a b i → replay b ≡ replay a ++ rest_of a b i
+pub replay_goes_on : (a b : Journal) (i : Info) → Behind a b i → replay b ≡ replay a ++ rest_of a b i
 unfolding replay
 replay_goes_on a b i h =
     ap (replay_at b) h.read_b ∙ entries_go_on b (length b.ring) (length b.ring) i.start i.number (replay a) h.stand h.fit (omega (arith, few_entries (replay a), h.fit))
 
 -- an entry that the second accepts, the first accepts, or it stands behind
-accepted_cases : (a b : Journal) (i : Info) (slot : ℕ) (e : Entry) → Behind a b i → Contains (placed_at b b.info) (slot, e)
+pub accepted_cases : (a b : Journal) (i : Info) (slot : ℕ) (e : Entry) → Behind a b i → Contains (placed_at b b.info) (slot, e)
     → Contains (placed_at a a.info) (slot, e) ⊎ Contains (placed_from b (slot_behind a b i) (rest_of a b i)) (slot, e)
 accepted_cases a b i slot e h is =
     let start = i.start in
@@ -270,7 +270,7 @@ contains_one b at f es slot e one is =
     ]
 
 -- an image without entries accepts none
-placed_none : (j : Journal) (o : Option Info) → replay j ≡ [] → placed_at j o ≡ []
+pub placed_none : (j : Journal) (o : Option Info) → replay j ≡ [] → placed_at j o ≡ []
 placed_none j None none = refl
 placed_none j (Some i) none = ap (placed_from j i.start) none
 

@@ -31,7 +31,7 @@ last_changed : {E : Type 0} (tests : List (Bool × E)) (x y : Bool × E) → Pas
 last_changed [] x y passed is = (is, tt)
 last_changed (test ∷ tests) x y passed is = (passed.0, last_changed tests x y passed.1 is)
 
-super_fits : (bytes : List ℕ) (n m : ℕ) (s : Super) → super_of bytes n ≡ Some s → total_blocks s.geometry ≤ m → super_of bytes m ≡ Some s
+pub super_fits : (bytes : List ℕ) (n m : ℕ) (s : Super) → super_of bytes n ≡ Some s → total_blocks s.geometry ≤ m → super_of bytes m ≡ Some s
 unfolding super_or_fault
 super_fits bytes n m s is fits =
     let r = value_passed (super_tests bytes n) (super_in bytes) s (some_ok _ s is) in
@@ -78,7 +78,7 @@ geometry_kept g bytes n m s whole is =
     let fits : total_blocks (found.0).geometry ≤ m = subst (λ (x : Geometry). total_blocks x ≤ m) (sym one) whole in
     ap (option_and_then (λ x. if same_geometry x.geometry g then Some x else None)) (super_fits bytes n m found.0 found.1 fits) ∙ found.2
 
-both_some : {A : Type 0} (o p : Option A) → ((x : A) → o ≡ Some x → p ≡ Some x) → ((x : A) → p ≡ Some x → o ≡ Some x) → o ≡ p
+pub both_some : {A : Type 0} (o p : Option A) → ((x : A) → o ≡ Some x → p ≡ Some x) → ((x : A) → p ≡ Some x → o ≡ Some x) → o ≡ p
 both_some (Some x) p there back = sym (there x refl)
 both_some None None there back = refl
 both_some None (Some y) there back = back y refl
@@ -90,16 +90,16 @@ geometry_same g bytes n m first second =
 -- ---- the metadata and the map
 
 -- the metadata over the parts that it is made of
-metadata_from : Geometry → Journal → List (List ℕ) → ℕ → Option Metadata
+unfoldable pub metadata_from : Geometry → Journal → List (List ℕ) → ℕ → Option Metadata
 metadata_from g j blocks size =
     option_and_then (λ s. let m = metadata_in s blocks in if is_well_formed m then Some m else None)
     (if is_some j.info then with_geometry g (block blocks 0) size else None)
 
-with_parts : (image : List (List ℕ)) (g : Geometry) → metadata_with image g ≡ metadata_from g (journal_of g image) (after g image) (length image)
+pub with_parts : (image : List (List ℕ)) (g : Geometry) → metadata_with image g ≡ metadata_from g (journal_of g image) (after g image) (length image)
 unfolding metadata_from
 with_parts image g = refl
 
-size_same : (g : Geometry) (j : Journal) (blocks : List (List ℕ)) (n m : ℕ) → total_blocks g ≤ n → total_blocks g ≤ m → metadata_from g j blocks n ≡ metadata_from g j blocks m
+pub size_same : (g : Geometry) (j : Journal) (blocks : List (List ℕ)) (n m : ℕ) → total_blocks g ≤ n → total_blocks g ≤ m → metadata_from g j blocks n ≡ metadata_from g j blocks m
 unfolding metadata_from
 size_same g j blocks n m first second =
     ap (λ (o : Option Super). option_and_then (λ s. let m = metadata_in s blocks in if is_well_formed m then Some m else None) (if is_some j.info then o else None))
@@ -112,7 +112,7 @@ with_same g a b s m =
     let parts : metadata_from g (journal_of g a) (after g a) (length a) ≡ metadata_from g (journal_of g b) (after g b) (length a) = λ i. metadata_from g (journal i) (blocks i) (length a) in
     with_parts a g ∙ parts ∙ size_same g (journal_of g b) (after g b) (length a) (length b) s.first_whole s.second_whole ∙ sym (with_parts b g)
 
-for_super : (g : Geometry) (a b : List (List ℕ)) (o : Option Super) → IsSomeAnd o (λ s. s.geometry ≡ g) → metadata_with a g ≡ metadata_with b g
+pub for_super : (g : Geometry) (a b : List (List ℕ)) (o : Option Super) → IsSomeAnd o (λ s. s.geometry ≡ g) → metadata_with a g ≡ metadata_with b g
     → option_and_then (λ s. metadata_with a s.geometry) o ≡ option_and_then (λ s. metadata_with b s.geometry) o
 for_super g a b None has same = absurd has
 for_super g a b (Some s) has same = ap (metadata_with a) has ∙ same ∙ ap (metadata_with b) (sym has)
