@@ -1,7 +1,8 @@
 //! The history of a mount.
 
 ghost use Rattle.std.specs.Prelude.{◌≡◌, ◌-◌, ◌+◌, ◌≤◌, ◌<◌, ◌^◌, ◌++◌, ◌∷◌, [], OnOk, OnErr, vec_len, vec_capacity};
-ghost use Rattle.spec_core.specs.History.{setting_of, with_event};
+ghost use Rattle.spec_core.specs.History.{setting_of};
+ghost use Rattle.bv_model.specs.Noted.{with_noted};
 
 use spec_core::{CoreEvent, Setting};
 use spec_tree::Digest;
@@ -9,8 +10,8 @@ use std::alloc::{AllocError, Global};
 use std::marker::Model;
 
 /// The events of a mount, and what it began with: the blobs of the opening map as root, size and
-/// version, which a legal history has in the order of the roots' bytes. Contracts see `opening`, `blocks`, `nodes`,
-/// `version`, `events`, and `spare`, the number of events that it has room for.
+/// version, which a legal history has in the order of the roots' bytes. Contracts see the `history`, as the rules speak
+/// of it, and `spare`, the number of events that it has room for.
 #[derive(Drop)]
 pub struct History {
     opening: Vec<(Digest, u64, u32)>,
@@ -20,13 +21,13 @@ pub struct History {
 }
 
 impl Model for History {
-    ghost use Rattle.spec_core.specs.History.{History};
+    ghost use Rattle.bv_model.specs.Noted.{Noted};
 
-    ghost Value = { History };
+    ghost Value = { Noted };
 
-    ghost use Rattle.bv_model.specs.Kept.{history_of, HasRoom};
+    ghost use Rattle.bv_model.specs.Kept.{noted_of, HasRoom};
 
-    ghost view = { history_of };
+    ghost view = { noted_of };
 
     ghost invariant = { HasRoom };
 }
@@ -34,11 +35,11 @@ impl Model for History {
 impl History {
     /// The history that a mount begins with, without an event.
     pub fn new(alloc: Global, setting: Setting, opening: Vec<(Digest, u64, u32)>) -> History
-        ensures opening { result.opening ≡ opening.items }
-        ensures blocks { result.blocks ≡ setting.blocks }
-        ensures nodes { result.nodes ≡ setting.nodes }
-        ensures version { result.version ≡ setting.version }
-        ensures events { result.events ≡ [] }
+        ensures opening { result.history.opening ≡ opening.items }
+        ensures blocks { result.history.blocks ≡ setting.blocks }
+        ensures nodes { result.history.nodes ≡ setting.nodes }
+        ensures version { result.history.version ≡ setting.version }
+        ensures events { result.history.events ≡ [] }
         ensures spare { result.spare ≡ 0 }
     {
         History {
@@ -51,21 +52,21 @@ impl History {
 
     /// The opening map: root, size and version of each blob.
     pub fn opening(&self) -> &[(Digest, u64, u32)]
-        ensures { result.now ≡ self.now.opening }
+        ensures { result.now ≡ self.now.history.opening }
     {
         self.opening.as_slice()
     }
 
     /// The numbers of the volume.
     pub fn setting(&self) -> Setting
-        ensures { result ≡ setting_of self.now }
+        ensures { result ≡ setting_of self.now.history }
     {
         self.setting
     }
 
     /// The events so far.
     pub fn events(&self) -> &[CoreEvent]
-        ensures { result.now ≡ self.now.events }
+        ensures { result.now ≡ self.now.history.events }
     {
         self.events.as_slice()
     }
@@ -78,9 +79,9 @@ impl History {
     }
 
     /// Makes room for so many events.
-    pub fn reserve(&mut self, events: u64) -> Result<(), AllocError>
+    pub fn reserve(&mut self, _alloc: Global, events: u64) -> Result<(), AllocError>
         requires { events < 2 ^ 62 }
-        ensures rest { self.new ≡ record self.old { spare = self.new.spare } }
+        ensures history { self.new.history ≡ self.old.history }
         ensures ok { OnOk result (events ≤ self.new.spare) }
         ensures kept { self.old.spare ≤ self.new.spare }
         ensures err { OnErr result (self.new ≡ self.old) }
@@ -95,7 +96,7 @@ impl History {
     /// Notes an event at the end.
     pub fn note(&mut self, event: CoreEvent)
         requires { 1 ≤ self.old.spare }
-        ensures { self.new ≡ record (with_event self.old event) { spare = self.old.spare - 1 } }
+        ensures { self.new ≡ with_noted self.old event }
     {
         push_event(&mut self.events, event);
         self.spare -= 1;

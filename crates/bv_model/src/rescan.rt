@@ -62,8 +62,8 @@ fn held_next(place: Place, was: Option<Digest>, deed: Deed) -> Option<Digest>
 
 /// What a place holds after the first `count` events.
 pub(crate) fn held_after(h: &History, count: usize, place: Place) -> Option<Digest>
-    requires { count ≤ length h.now.events }
-    ensures { C.After h.now count (λ s. result ≡ S.held s.slots place) }
+    requires { count ≤ length h.now.history.events }
+    ensures { C.After h.now.history count (λ s. result ≡ S.held s.slots place) }
 {
     let events = h.events();
     let mut held = None;
@@ -135,8 +135,8 @@ fn standing_next(root: Digest, was: Standing, held: Option<Digest>, deed: Deed) 
 
 /// What is held at the place that a deed closes, after the first `count` events.
 fn closed_root(h: &History, count: usize, deed: Deed) -> Option<Digest>
-    requires { count ≤ length h.now.events }
-    ensures { C.After h.now count (λ s. result ≡ C.closed_root s deed) }
+    requires { count ≤ length h.now.history.events }
+    ensures { C.After h.now.history count (λ s. result ≡ C.closed_root s deed) }
 {
     match deed {
         Deed::Closes { place } => held_after(h, count, place),
@@ -146,8 +146,8 @@ fn closed_root(h: &History, count: usize, deed: Deed) -> Option<Digest>
 
 /// How a root stands after the first `count` events.
 fn standing_after(h: &History, count: usize, root: Digest) -> Standing
-    requires { count ≤ length h.now.events }
-    ensures { C.After h.now count (λ s. result ≡ C.standing_in s root) }
+    requires { count ≤ length h.now.history.events }
+    ensures { C.After h.now.history count (λ s. result ≡ C.standing_in s root) }
 {
     let mut standing = NOWHERE;
     for i in 0..count {
@@ -159,8 +159,8 @@ fn standing_after(h: &History, count: usize, root: Digest) -> Standing
 
 /// How the root stands that a deed unlinks, or closes a place of.
 pub(crate) fn standing_for(h: &History, count: usize, deed: Deed) -> Standing
-    requires { count ≤ length h.now.events }
-    ensures { C.After h.now count (λ s. result ≡ C.standing_for s deed) }
+    requires { count ≤ length h.now.history.events }
+    ensures { C.After h.now.history count (λ s. result ≡ C.standing_for s deed) }
 {
     match deed {
         Deed::Closes { place } => match held_after(h, count, place) {
@@ -254,8 +254,8 @@ impl Lengths {
 
 /// How long the log is after the first `count` events.
 fn log_after(h: &History, count: usize) -> u64
-    requires { count ≤ length h.now.events }
-    ensures { C.After h.now count (λ s. result ≡ length s.log) }
+    requires { count ≤ length h.now.history.events }
+    ensures { C.After h.now.history count (λ s. result ≡ length s.log) }
 {
     let events = h.events();
     let mut lengths = Lengths {
@@ -290,8 +290,8 @@ fn is_by(event: &CoreEvent, calls: u64) -> bool
 ///
 /// Takes no memory, and time that grows with the cube of the events.
 pub fn synced_by(h: &History, calls: u64) -> u64
-    requires legal { (next : ℕ) × Legal h.now next }
-    ensures { result ≡ Y.synced_by h.now calls }
+    requires legal { (next : ℕ) × Legal h.now.history next }
+    ensures { result ≡ Y.synced_by h.now.history calls }
 {
     let events = h.events();
     let mut count = 0;
@@ -315,8 +315,8 @@ fn reaches(event: &CoreEvent, calls: u64) -> bool
 ///
 /// Takes no memory, and time that grows with the cube of the events.
 pub fn logged_by(h: &History, calls: u64) -> u64
-    requires legal { (next : ℕ) × Legal h.now next }
-    ensures { result ≡ Y.logged_by h.now calls }
+    requires legal { (next : ℕ) × Legal h.now.history next }
+    ensures { result ≡ Y.logged_by h.now.history calls }
 {
     let events = h.events();
     for i in 0..events.len() {

@@ -48,7 +48,7 @@ const NO_BLOB: Blob = Blob {
 
 /// The blob that the opening map has at a root.
 fn opening_blob(h: &History, root: Digest) -> Option<Blob>
-    ensures { result ≡ S.find (opening_map h.now) root }
+    ensures { result ≡ S.find (opening_map h.now.history) root }
 {
     let opening = h.opening();
     for i in 0..opening.len() {
@@ -62,7 +62,7 @@ fn opening_blob(h: &History, root: Digest) -> Option<Blob>
 
 /// The blocks of the opening map.
 fn opening_blocks(h: &History) -> u128
-    ensures value { result ≡ sum_by R.blob_need (values_of (opening_map h.now)) }
+    ensures value { result ≡ sum_by R.blob_need (values_of (opening_map h.now.history)) }
     ensures bound { result ≤ 2 ^ 63 * (2 ^ 64 - 1) }
 {
     let opening = h.opening();
@@ -105,8 +105,8 @@ fn known_next(root: Digest, was: Known, version: u32, adding: Adding) -> Known
 
 /// What is known of a root after the first `count` events.
 fn known_after(h: &History, count: usize, root: Digest) -> Known
-    requires { count ≤ length h.now.events }
-    ensures { C.After h.now count (λ s. T.Knows (setting_of h.now) s root result) }
+    requires { count ≤ length h.now.history.events }
+    ensures { C.After h.now.history count (λ s. T.Knows (setting_of h.now.history) s root result) }
 {
     let version = h.setting().version;
     let mut known = Known {
@@ -121,8 +121,8 @@ fn known_after(h: &History, count: usize, root: Digest) -> Known
 
 /// The blocks of a root's add, or none, after the first `count` events.
 fn add_need(h: &History, count: usize, root: Digest) -> u64
-    requires { count ≤ length h.now.events }
-    ensures { C.After h.now count (λ s. result ≡ T.add_need (setting_of h.now) s root) }
+    requires { count ≤ length h.now.history.events }
+    ensures { C.After h.now.history count (λ s. result ≡ T.add_need (setting_of h.now.history) s root) }
 {
     let known = known_after(h, count, root);
     if known.adding {
@@ -134,8 +134,8 @@ fn add_need(h: &History, count: usize, root: Digest) -> u64
 
 /// The blocks of a root's blob in the map, if it has one, after the first `count` events.
 fn blob_need(h: &History, count: usize, root: Digest) -> u64
-    requires { count ≤ length h.now.events }
-    ensures { C.After h.now count (λ s. T.NeedsAt s root result) }
+    requires { count ≤ length h.now.history.events }
+    ensures { C.After h.now.history count (λ s. T.NeedsAt s root result) }
 {
     let known = known_after(h, count, root);
     blocks_needed_of(known.blob.version, known.blob.size)
@@ -143,8 +143,8 @@ fn blob_need(h: &History, count: usize, root: Digest) -> u64
 
 /// The blocks of the blob that a deed unlinks, or closes a place of.
 fn deed_need(h: &History, count: usize, deed: Deed) -> u64
-    requires { count ≤ length h.now.events }
-    ensures { C.After h.now count (λ s. T.NeedsFor s deed result) }
+    requires { count ≤ length h.now.history.events }
+    ensures { C.After h.now.history count (λ s. T.NeedsFor s deed result) }
 {
     match deed {
         Deed::Closes { place } => match held_after(h, count, place) {
@@ -159,9 +159,9 @@ fn deed_need(h: &History, count: usize, deed: Deed) -> u64
 /// The blocks that an event is about: of the add that it begins or ends, or of the blob that it
 /// unlinks or closes a slot of.
 fn event_need(h: &History, count: usize, event: &CoreEvent) -> u64
-    requires { count ≤ length h.now.events }
-    ensures { C.After h.now count (λ s.
-        T.NeedsOf (setting_of h.now) s event.now.who event.now.act event.now.reply result) }
+    requires { count ≤ length h.now.history.events }
+    ensures { C.After h.now.history count (λ s.
+        T.NeedsOf (setting_of h.now.history) s event.now.who event.now.act event.now.reply result) }
 {
     match adding_of(event) {
         Adding::Begins { size, .. } => blocks_needed_of(h.setting().version, size),
@@ -309,8 +309,8 @@ impl Taken {
 /// Takes no memory, and time that grows with the cube of the events, and with the events times the
 /// opening list.
 pub fn room_of(h: &History) -> u64
-    requires legal { (next : ℕ) × Legal h.now next }
-    ensures { result ≡ room h.now }
+    requires legal { (next : ℕ) × Legal h.now.history next }
+    ensures { result ≡ room h.now.history }
 {
     let mut taken = Taken {
         all: opening_blocks(h),

@@ -27,7 +27,7 @@ fn rose_within(before: u64, now: u64, last: u64) -> bool
 /// Whether the faults of a history came from a device whose count of faults rose from `first` to
 /// `last`.
 pub fn is_caused(h: &History, first: u64, last: u64) -> bool
-    ensures { IsTrue result ↔ Y.Caused h.now first last }
+    ensures { IsTrue result ↔ Y.Caused h.now.history first last }
 {
     let mut before = first;
     for event in h.events() {

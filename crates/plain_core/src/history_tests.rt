@@ -20,12 +20,18 @@ const D: Digest = Digest([4; 32]);
 const BLOCK: u64 = 8192;
 
 /// An event of session 0, noted after so many calls of the device.
-fn note(history: &mut History, act: Act, reply: Reply, calls: u64) -> Result<(), AllocError> {
+fn note(
+    alloc: Global,
+    history: &mut History,
+    act: Act,
+    reply: Reply,
+    calls: u64,
+) -> Result<(), AllocError> {
     let who = Who {
         session: 0,
         line: 1,
     };
-    history.reserve(1)?;
+    history.reserve(alloc, 1)?;
     history.note(CoreEvent {
         who,
         act,
@@ -68,7 +74,7 @@ fn history_over(
     opening.push((roots[1], BLOCK, 1))?;
     let mut history = History::new(alloc, setting, opening);
     for (act, reply, calls) in events {
-        note(&mut history, *act, *reply, *calls)?;
+        note(alloc, &mut history, *act, *reply, *calls)?;
     }
     Ok(history)
 }
@@ -237,7 +243,7 @@ fn the_room_counts_blobs_adds_and_purges_that_are_not_durable(rt: HostRuntime) -
     assert!(rt; is_legal(rt.alloc(), &history, 1)?);
     assert_eq!(rt; room_of(&history), 259);
     for (i, (act, reply, room)) in ROOMS.iter().enumerate() {
-        note(&mut history, *act, *reply, 0)?;
+        note(alloc, &mut history, *act, *reply, 0)?;
         assert!(rt; is_legal(rt.alloc(), &history, 1)?, "event {i}");
         assert_eq!(rt; room_of(&history), *room, "event {i}");
     }

@@ -16,7 +16,7 @@ use std::alloc::{AllocError, Global};
 
 /// Whether the opening is in the order of the roots' bytes, each root once.
 fn is_opening_sorted(h: &History) -> bool
-    ensures { IsTrue result ↔ IsStrictlySortedBy digest_cmp (keys_of (H.opening_map h.now)) }
+    ensures { IsTrue result ↔ IsStrictlySortedBy digest_cmp (keys_of (H.opening_map h.now.history)) }
 {
     let opening = h.opening();
     for i in 1..opening.len() {
@@ -58,7 +58,7 @@ fn are_steps(core: &mut Machine, events: &[CoreEvent]) -> Result<bool, AllocErro
 /// Whether a history is legal, where `next` is the number of its first entry.
 pub fn is_legal(alloc: Global, h: &History, next: u64) -> Result<bool, AllocError>
     requires { next ≤ 2 ^ 62 }
-    ensures { IfOk result (λ yes. IsTrue yes ↔ H.Legal h.now next) }
+    ensures { IfOk result (λ yes. IsTrue yes ↔ H.Legal h.now.history next) }
 {
     if !is_opening_sorted(h) || !never_falls(h.events()) {
         return Ok(false);

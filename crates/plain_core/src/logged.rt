@@ -23,10 +23,10 @@ pub struct Logged {
 
 /// The log of a history, whose opening is in the order of the roots' bytes.
 pub fn logged_of(alloc: Global, h: &History) -> Result<Logged, AllocError>
-    requires { IsStrictlySortedBy digest_cmp (keys_of (opening_map h.now)) }
-    ensures changes { IfOk result (λ logged. logged.changes.items ≡ log_of h.now) }
+    requires { IsStrictlySortedBy digest_cmp (keys_of (opening_map h.now.history)) }
+    ensures changes { IfOk result (λ logged. logged.changes.items ≡ log_of h.now.history) }
     ensures lengths { IfOk result (λ logged.
-        logged.lengths.items ≡ map (λ e. e.1) (log_lengths h.now)) }
+        logged.lengths.items ≡ map (λ e. e.1) (log_lengths h.now.history)) }
 {
     let mut core = Machine::mounted(alloc, h, 0)?;
     let mut lengths = Vec::new(alloc);

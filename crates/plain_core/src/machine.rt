@@ -40,8 +40,8 @@ impl Model for Machine {
 
 /// The opening map of a history, whose opening is in the order of the roots' bytes.
 pub fn opening_of(alloc: Global, h: &History) -> Result<BTreeMap<Digest, Blob>, AllocError>
-    requires { IsStrictlySortedBy digest_cmp (keys_of (opening_map h.now)) }
-    ensures { IfOk result (λ map. map.entries ≡ opening_map h.now) }
+    requires { IsStrictlySortedBy digest_cmp (keys_of (opening_map h.now.history)) }
+    ensures { IfOk result (λ map. map.entries ≡ opening_map h.now.history) }
 {
     let mut map = BTreeMap::new(alloc);
     for (root, size, version) in h.opening() {
@@ -79,9 +79,9 @@ impl Machine {
     /// The core as the mount of a history began, whose opening is in the order of the roots' bytes;
     /// `next` is the number of its first entry.
     pub fn mounted(alloc: Global, h: &History, next: u64) -> Result<Machine, AllocError>
-        requires { IsStrictlySortedBy digest_cmp (keys_of (opening_map h.now)) }
-        ensures setting { IfOk result (λ core. core.setting ≡ setting_of h.now) }
-        ensures state { IfOk result (λ core. core.state ≡ first_state (opening_map h.now) next) }
+        requires { IsStrictlySortedBy digest_cmp (keys_of (opening_map h.now.history)) }
+        ensures setting { IfOk result (λ core. core.setting ≡ setting_of h.now.history) }
+        ensures state { IfOk result (λ core. core.state ≡ first_state (opening_map h.now.history) next) }
     {
         Ok(Machine {
             map: opening_of(alloc, h)?,

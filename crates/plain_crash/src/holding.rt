@@ -59,10 +59,10 @@ fn map_after(
     log: &[MapChange],
     count: usize,
 ) -> Result<BTreeMap<Digest, Blob>, AllocError>
-    requires sorted { IsStrictlySortedBy digest_cmp (keys_of (opening_map h.now)) }
-    requires log { log.now ≡ log_of h.now }
+    requires sorted { IsStrictlySortedBy digest_cmp (keys_of (opening_map h.now.history)) }
+    requires log { log.now ≡ log_of h.now.history }
     requires count { count ≤ length log.now }
-    ensures { IfOk result (λ map. map.entries ≡ C.map_after h.now count) }
+    ensures { IfOk result (λ map. map.entries ≡ C.map_after h.now.history count) }
 {
     let mut map = opening_of(alloc, h)?;
     for change in &log[..count] {
@@ -87,10 +87,10 @@ fn is_map_at(
     count: usize,
     held: &BTreeMap<Digest, Blob>,
 ) -> Result<bool, AllocError>
-    requires sorted { IsStrictlySortedBy digest_cmp (keys_of (opening_map h.now)) }
-    requires logged { IsLogOf h.now logged.now }
-    requires count { count ≤ length (log_of h.now) }
-    ensures { IfOk result (λ yes. IsTrue yes ↔ IsMapAt h.now held.now.entries count) }
+    requires sorted { IsStrictlySortedBy digest_cmp (keys_of (opening_map h.now.history)) }
+    requires logged { IsLogOf h.now.history logged.now }
+    requires count { count ≤ length (log_of h.now.history) }
+    ensures { IfOk result (λ yes. IsTrue yes ↔ IsMapAt h.now.history held.now.entries count) }
 {
     if !is_boundary(&logged.lengths, count as u64) {
         return Ok(false);
@@ -106,9 +106,9 @@ fn is_left(
     calls: u64,
     held: &BTreeMap<Digest, Blob>,
 ) -> Result<bool, AllocError>
-    requires legal { (next : ℕ) × Legal h.now next }
+    requires legal { (next : ℕ) × Legal h.now.history next }
     ensures { IfOk result (λ yes.
-        IsTrue yes ↔ ((count : ℕ) × IsLeftAt h.now calls held.now.entries count)) }
+        IsTrue yes ↔ ((count : ℕ) × IsLeftAt h.now.history calls held.now.entries count)) }
 {
     let least = synced_by(h, calls);
     let most = logged_by(h, calls);
@@ -131,8 +131,8 @@ pub fn holds_prefix(
     calls: u64,
     image: &[Block],
 ) -> Result<bool, AllocError>
-    requires legal { (next : ℕ) × Legal h.now next }
-    ensures { IfOk result (λ yes. IsTrue yes ↔ C.HoldsPrefix h.now calls image.now) }
+    requires legal { (next : ℕ) × Legal h.now.history next }
+    ensures { IfOk result (λ yes. IsTrue yes ↔ C.HoldsPrefix h.now.history calls image.now) }
 {
     let Some(held) = blobs_from(alloc, image)? else {
         return Ok(false);

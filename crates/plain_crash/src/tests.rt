@@ -100,7 +100,7 @@ fn history_of(alloc: Global, opening: &[Digest], events: &[Told]) -> Result<Hist
     }
     let mut history = History::new(alloc, setting, blobs);
     for (act, reply, calls) in events {
-        history.reserve(1)?;
+        history.reserve(alloc, 1)?;
         history.note(CoreEvent {
             who,
             act: *act,

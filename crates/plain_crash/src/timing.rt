@@ -15,7 +15,7 @@ use spec_disk::Event;
 
 /// Whether calls rises only in events that may write and sync.
 fn rises_in_calls(h: &History) -> bool
-    ensures { IsTrue result ↔ T.RisesInCalls h.now }
+    ensures { IsTrue result ↔ T.RisesInCalls h.now.history }
 {
     let events = h.events();
     for i in 1..events.len() {
@@ -55,14 +55,14 @@ fn puts_are_writes(events: &[Event], history: &[CoreEvent]) -> bool
 
 /// Whether each put that replied `written` is one write, which succeeded.
 fn puts_write(events: &[Event], h: &History) -> bool
-    ensures { IsTrue result ↔ T.PutsWrite events.now h.now }
+    ensures { IsTrue result ↔ T.PutsWrite events.now h.now.history }
 {
     puts_raise_by_one(h.events()) && puts_are_writes(events, h.events())
 }
 
 /// Whether each event that replied `synced` or `unmounted` raises calls.
 fn syncs_raise(h: &History) -> bool
-    ensures { IsTrue result ↔ Y.SyncsInCalls h.now }
+    ensures { IsTrue result ↔ Y.SyncsInCalls h.now.history }
 {
     let events = h.events();
     for i in 1..events.len() {
@@ -89,7 +89,7 @@ fn replies_are_syncs(events: &[Event], history: &[CoreEvent]) -> bool
 
 /// Whether each event that replied `synced` or `unmounted` ends with a sync of its own.
 fn replies_sync(events: &[Event], h: &History) -> bool
-    ensures { IsTrue result ↔ T.RepliesSync events.now h.now }
+    ensures { IsTrue result ↔ T.RepliesSync events.now h.now.history }
 {
     syncs_raise(h) && replies_are_syncs(events, h.events())
 }
@@ -103,7 +103,7 @@ fn is_at_last(events: &[Event], event: &CoreEvent) -> bool
 
 /// Whether the last event ends at the device's last.
 fn ends_at_last(events: &[Event], h: &History) -> bool
-    ensures { IsTrue result ↔ T.EndsAtLast events.now h.now }
+    ensures { IsTrue result ↔ T.EndsAtLast events.now h.now.history }
 {
     match h.events() {
         [.., last] => is_at_last(events, last),
@@ -113,7 +113,7 @@ fn ends_at_last(events: &[Event], h: &History) -> bool
 
 /// Whether a history is timed by these events of the device: those since the mount began.
 pub fn is_timed(events: &[Event], h: &History) -> bool
-    ensures { IsTrue result ↔ T.IsTimed events.now h.now }
+    ensures { IsTrue result ↔ T.IsTimed events.now h.now.history }
 {
     rises_in_calls(h) && puts_write(events, h) && replies_sync(events, h) && ends_at_last(events, h)
 }

@@ -53,7 +53,7 @@ fn history_of(alloc: Global, calls: [u64; 7]) -> Result<History, AllocError> {
     };
     let mut history = History::new(alloc, setting, Vec::new(alloc));
     for (i, (act, reply)) in EVENTS.iter().enumerate() {
-        history.reserve(1)?;
+        history.reserve(alloc, 1)?;
         history.note(CoreEvent {
             who,
             act: *act,

@@ -12,7 +12,7 @@ use Rattle.spec_core.specs.declared.event.CoreEvent.{CoreEvent}
 use Rattle.spec_core.specs.declared.map_change.MapChange.{MapChange}
 use Rattle.spec_core.specs.declared.setting.Setting.{Setting}
 
--- a history, as contracts see it
+-- a history
 pub record History : Type 0 where
   -- root, size and version of each blob that stood there as the mount began
   pub opening : List (Digest × ℕ × ℕ)
@@ -20,8 +20,6 @@ pub record History : Type 0 where
   pub nodes : ℕ
   pub version : ℕ
   pub events : List CoreEvent
-  -- for how many events there is room, which the rules don't look at
-  pub spare : ℕ
 
 -- the numbers of the volume
 abbrev pub setting_of : History → Setting

@@ -26,12 +26,12 @@ use Rattle.spec_crash.proofs.TimingLemmas.{IsTimed-push}
 
 -- The log and its lengths with one event more
 
-lengths_from-push : (g : Setting) (s : State) (es : List CoreEvent) (e : CoreEvent) → lengths_from g s (es ++ e ∷ []) ≡ lengths_from g s es ++ (e, length (after g (state_after g s es) e).log) ∷ []
+pub lengths_from-push : (g : Setting) (s : State) (es : List CoreEvent) (e : CoreEvent) → lengths_from g s (es ++ e ∷ []) ≡ lengths_from g s es ++ (e, length (after g (state_after g s es) e).log) ∷ []
 lengths_from-push g s [] e = refl
 lengths_from-push g s (x ∷ es) e = ap (λ (ps : List (CoreEvent × ℕ)). (x, length (after g s x).log) ∷ ps) (lengths_from-push g (after g s x) es e)
 
 -- an event adds to the log
-log_grows : (g : Setting) (s : State) (e : CoreEvent) → (more : List MapChange) × ((after g s e).log ≡ s.log ++ more)
+pub log_grows : (g : Setting) (s : State) (e : CoreEvent) → (more : List MapChange) × ((after g s e).log ≡ s.log ++ more)
 log_grows g s e = let moved = moves g s e.who e.act e.reply in (moved.0, moved.1)
 
 length-log_grows : (g : Setting) (s : State) (e : CoreEvent) → length s.log ≤ length (after g s e).log
@@ -55,7 +55,7 @@ log_length-within h k (inr some) =
 
 -- Lengths that are picked, with one more
 
-lengths_where-append : (test : CoreEvent → Bool) (ps qs : List (CoreEvent × ℕ)) → lengths_where test (ps ++ qs) ≡ lengths_where test ps ++ lengths_where test qs
+pub lengths_where-append : (test : CoreEvent → Bool) (ps qs : List (CoreEvent × ℕ)) → lengths_where test (ps ++ qs) ≡ lengths_where test ps ++ lengths_where test qs
 lengths_where-append test ps qs =
     ap (λ (rs : List (CoreEvent × ℕ)). map (λ p. p.1) rs) (filter-append (λ p. test p.0) ps qs)
     ∙ map-append (λ (p : CoreEvent × ℕ). p.1) (filter (λ p. test p.0) ps) (filter (λ p. test p.0) qs)
@@ -79,25 +79,25 @@ first_or-one false e n = omega arith
 -- A history with one event more
 
 module _ (h : History) (e : CoreEvent) where
-  abbrev length_after : ℕ
+  abbrev pub length_after : ℕ
   length_after = length (after (setting_of h) (last_state h 0) e).log
 
-  lengths_is : log_lengths (with_event h e) ≡ log_lengths h ++ (e, length_after) ∷ []
+  pub lengths_is : log_lengths (with_event h e) ≡ log_lengths h ++ (e, length_after) ∷ []
   lengths_is = lengths_from-push (setting_of h) (first_state (opening_map h) 0) h.events e
 
-  log_is : log_of (with_event h e) ≡ (after (setting_of h) (last_state h 0) e).log
+  pub log_is : log_of (with_event h e) ≡ (after (setting_of h) (last_state h 0) e).log
   log_is = ap (λ (s : State). s.log) (state_after-push (setting_of h) (first_state (opening_map h) 0) h.events e)
 
-  length_is : length (log_of (with_event h e)) ≡ length_after
+  pub length_is : length (log_of (with_event h e)) ≡ length_after
   length_is = ap (λ (l : List MapChange). length l) log_is
 
   -- an event of more calls makes nothing durable by then
-  synced_by-push : (n : ℕ) → (tells_durable e.reply && nat_le e.calls n) ≡ false → synced_by (with_event h e) n ≡ synced_by h n
+  pub synced_by-push : (n : ℕ) → (tells_durable e.reply && nat_le e.calls n) ≡ false → synced_by (with_event h e) n ≡ synced_by h n
   synced_by-push n late =
       ap (λ (ps : List (CoreEvent × ℕ)). last_or 0 (lengths_where (λ x. tells_durable x.reply && nat_le x.calls n) ps)) lengths_is
       ∙ ap (λ (ns : List ℕ). last_or 0 ns) (lengths_where-failed (λ x. tells_durable x.reply && nat_le x.calls n) (log_lengths h) e length_after late)
 
-  logged_by-push : (n count : ℕ) → count ≤ logged_by h n → count ≤ logged_by (with_event h e) n
+  pub logged_by-push : (n count : ℕ) → count ≤ logged_by h n → count ≤ logged_by (with_event h e) n
   logged_by-push n count below =
       let reached : CoreEvent → Bool = λ x. nat_le n x.calls in
       let same : logged_by (with_event h e) n ≡ first_or length_after (lengths_where reached (log_lengths h) ++ lengths_where reached ((e, length_after) ∷ [])) =
@@ -109,7 +109,7 @@ module _ (h : History) (e : CoreEvent) where
       (length-log_grows (setting_of h) (last_state h 0) e) (first_or-one (nat_le n e.calls) e length_after) below in
       omega (arith, same, more)
 
-  IsLogLength-push : (k : ℕ) → IsLogLength h k → IsLogLength (with_event h e) k
+  pub IsLogLength-push : (k : ℕ) → IsLogLength h k → IsLogLength (with_event h e) k
   IsLogLength-push k (inl none) = inl none
   IsLogLength-push k (inr some) =
       let longer : map (λ (p : CoreEvent × ℕ). p.1) (log_lengths (with_event h e)) ≡ map (λ (p : CoreEvent × ℕ). p.1) (log_lengths h) ++ length_after ∷ [] =
@@ -117,13 +117,13 @@ module _ (h : History) (e : CoreEvent) where
       ∙ map-append (λ (p : CoreEvent × ℕ). p.1) (log_lengths h) ((e, length_after) ∷ []) in
       inr (subst (λ ns. Contains ns k) (sym longer) (Contains-append_left (map (λ (p : CoreEvent × ℕ). p.1) (log_lengths h)) (length_after ∷ []) k some))
 
-  map_after-push : (k : ℕ) → k ≤ length (log_of h) → map_after (with_event h e) k ≡ map_after h k
+  pub map_after-push : (k : ℕ) → k ≤ length (log_of h) → map_after (with_event h e) k ≡ map_after h k
   map_after-push k within =
       let (more, grown) = log_grows (setting_of h) (last_state h 0) e in
       ap (λ (l : List MapChange). changed (opening_map h) (take k l)) (log_is ∙ grown)
       ∙ ap (λ (l : List MapChange). changed (opening_map h) l) (take-append-le k (log_of h) more within)
 
-  HoldsPrefix-push : (n : ℕ) (j : Blocks) → (tells_durable e.reply && nat_le e.calls n) ≡ false → HoldsPrefix h n j → HoldsPrefix (with_event h e) n j
+  pub HoldsPrefix-push : (n : ℕ) (j : Blocks) → (tells_durable e.reply && nat_le e.calls n) ≡ false → HoldsPrefix h n j → HoldsPrefix (with_event h e) n j
   HoldsPrefix-push n j late p = record {
     count = p.count;
     durable = omega (arith, synced_by-push n late, p.durable);

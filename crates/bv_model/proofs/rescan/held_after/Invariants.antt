@@ -5,4 +5,4 @@ use Rattle.spec_core.specs.State as S
 use Rattle.bv_model.proofs.rescan.held_after.Given as goal
 
 abbrev pub invariant-loop-i : goal.invariant-loop-i
-invariant-loop-i l = (next : ℕ) → Legal l.h next → l.held ≡ S.held (state_at l.h next l.i).slots l.place
+invariant-loop-i l = (next : ℕ) → Legal l.h.history next → l.held ≡ S.held (state_at l.h.history next l.i).slots l.place

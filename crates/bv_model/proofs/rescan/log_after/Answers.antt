@@ -8,10 +8,10 @@ loop-i-preserved c = record {
   follows = λ next legal. elim c.if-fails.branch [
     | then-fails w ↦
         rw (w.failed-is, w.published_by.ensures.value, c.next-lengths.ensures.step, c.standing_for.ensures next legal, c.deed_of-deed.ensures, c.events-events.ensures)
-        (lengths_more c.args.h.now next c.loop-i.i _ c.loop-i.lengths c.loop-i.failed true legal (omega (arith, c.loop-i-test.true, c.requires)) (rw c.events-events.ensures at (sym c.fails.ensures ∙ w.if-fails.true)) (c.loop-i.invariant.follows next legal))
+        (lengths_more c.args.h.now.history next c.loop-i.i _ c.loop-i.lengths c.loop-i.failed true legal (omega (arith, c.loop-i-test.true, c.requires)) (rw c.events-events.ensures at (sym c.fails.ensures ∙ w.if-fails.true)) (c.loop-i.invariant.follows next legal))
     | else-fails w ↦
         rw (w.failed-is, c.next-lengths.ensures.step, c.standing_for.ensures next legal, c.deed_of-deed.ensures, c.events-events.ensures)
-        (lengths_more c.args.h.now next c.loop-i.i _ c.loop-i.lengths c.loop-i.failed false legal (omega (arith, c.loop-i-test.true, c.requires)) (rw c.events-events.ensures at (sym c.fails.ensures ∙ w.if-fails.false)) (c.loop-i.invariant.follows next legal))
+        (lengths_more c.args.h.now.history next c.loop-i.i _ c.loop-i.lengths c.loop-i.failed false legal (omega (arith, c.loop-i-test.true, c.requires)) (rw c.events-events.ensures at (sym c.fails.ensures ∙ w.if-fails.false)) (c.loop-i.invariant.follows next legal))
   ];
   bound = omega (arith, c.next-lengths.ensures.bound, c.loop-i.invariant.bound);
   failed = elim c.if-fails.branch [

@@ -6,7 +6,7 @@ use Rattle.bv_model.proofs.rescan.log_after.Given as goal
 
 abbrev pub invariant-loop-i : goal.invariant-loop-i
 invariant-loop-i l = record {
-  follows : (next : ℕ) → Legal l.h next → Follows (state_at l.h next l.i) l.lengths l.failed;
+  follows : (next : ℕ) → Legal l.h.history next → Follows (state_at l.h.history next l.i) l.lengths l.failed;
   bound : in_all l.lengths ≤ l.i;
   failed : l.failed ≤ l.i + 1;
   log : l.log ≡ l.lengths.log + l.failed;

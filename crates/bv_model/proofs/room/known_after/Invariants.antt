@@ -5,4 +5,4 @@ use Rattle.bv_model.specs.Taking.{Knows}
 use Rattle.bv_model.proofs.room.known_after.Given as goal
 
 abbrev pub invariant-loop-i : goal.invariant-loop-i
-invariant-loop-i l = (next : ℕ) → Legal l.h next → Knows (setting_of l.h) (state_at l.h next l.i) l.root l.known
+invariant-loop-i l = (next : ℕ) → Legal l.h.history next → Knows (setting_of l.h.history) (state_at l.h.history next l.i) l.root l.known

@@ -7,6 +7,6 @@ use Rattle.bv_model.proofs.room.room_of.Given as goal
 
 abbrev pub invariant-loop-i : goal.invariant-loop-i
 invariant-loop-i l = record {
-  taken : (next : ℕ) → Legal l.h next → TakenOf (setting_of l.h) (state_at l.h next l.i) l.taken;
+  taken : (next : ℕ) → Legal l.h.history next → TakenOf (setting_of l.h.history) (state_at l.h.history next l.i) l.taken;
   bound : in_all l.taken ≤ (2 ^ 63 + l.i) * (2 ^ 64 - 1);
 }

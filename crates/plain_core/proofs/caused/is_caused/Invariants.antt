@@ -5,5 +5,5 @@ use Rattle.plain_core.proofs.caused.is_caused.Given as goal
 
 abbrev pub invariant-loop-event : goal.invariant-loop-event
 invariant-loop-event l =
-    RiseWithin l.before l.last (faults_of (drop l.event-index l.fn.h.events))
-    ↔ Caused l.fn.h l.first l.last
+    RiseWithin l.before l.last (faults_of (drop l.event-index l.fn.h.history.events))
+    ↔ Caused l.fn.h.history l.first l.last

@@ -3,4 +3,4 @@ use Rattle.plain_core.proofs.Openings.{SortedTo}
 use Rattle.plain_core.proofs.legality.is_opening_sorted.Given as goal
 
 abbrev pub invariant-loop-i : goal.invariant-loop-i
-invariant-loop-i l = SortedTo l.fn.h.opening l.i
+invariant-loop-i l = SortedTo l.fn.h.history.opening l.i

@@ -8,7 +8,7 @@ use Rattle.plain_core.proofs.logged.logged_of.Given as goal
 abbrev pub invariant-loop-event : goal.invariant-loop-event
 invariant-loop-event l = record {
   next : l.core.state.next ≤ l.event-index;
-  state : state_after l.core.setting l.core.state (drop l.event-index l.fn.h.events) ≡ last_state l.fn.h 0;
-  lengths : l.lengths.items ++ map (λ e. e.1) (lengths_from l.core.setting l.core.state (drop l.event-index l.fn.h.events))
-      ≡ map (λ e. e.1) (log_lengths l.fn.h);
+  state : state_after l.core.setting l.core.state (drop l.event-index l.fn.h.history.events) ≡ last_state l.fn.h.history 0;
+  lengths : l.lengths.items ++ map (λ e. e.1) (lengths_from l.core.setting l.core.state (drop l.event-index l.fn.h.history.events))
+      ≡ map (λ e. e.1) (log_lengths l.fn.h.history);
 }

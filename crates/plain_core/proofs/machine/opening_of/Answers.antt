@@ -5,4 +5,4 @@ use Rattle.plain_core.proofs.machine.opening_of.Goals as goal
 pub loop-root-preserved : goal.loop-root-preserved
 loop-root-preserved c =
     c.in_ok-insert.ensures.entries ∙ rw (c.loop-root.invariant, c.opening-root-items.ensures)
-    (mapped_more c.args.h.now.opening c.loop-root.root-index _ (rw c.opening-root-items.ensures at c.loop-root-test.true) c.requires)
+    (mapped_more c.args.h.now.history.opening c.loop-root.root-index _ (rw c.opening-root-items.ensures at c.loop-root-test.true) c.requires)

@@ -8,6 +8,6 @@ returns c = (
   λ e. cc,
   λ (count, left).
       absurd (c.loop-count.invariant count
-      (omega (arith, c.loop-count-test.false, log_length-within c.args.h.now count left.2.0, ap length c.in_ok-logged.ensures.changes))
+      (omega (arith, c.loop-count-test.false, log_length-within c.args.h.now.history count left.2.0, ap length c.in_ok-logged.ensures.changes))
       left),
 )

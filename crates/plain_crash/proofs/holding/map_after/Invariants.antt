@@ -6,4 +6,4 @@ use Rattle.plain_crash.proofs.holding.map_after.Given as goal
 
 abbrev pub invariant-loop-change : goal.invariant-loop-change
 invariant-loop-change l =
-    changed l.map.entries (drop l.change-index l.change-items) ≡ C.map_after l.h l.count
+    changed l.map.entries (drop l.change-index l.change-items) ≡ C.map_after l.h.history l.count

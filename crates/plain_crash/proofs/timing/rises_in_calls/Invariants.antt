@@ -5,4 +5,4 @@ use Rattle.plain_crash.proofs.Nexts.{Left}
 use Rattle.plain_crash.proofs.timing.rises_in_calls.Given as goal
 
 abbrev pub invariant-loop-i : goal.invariant-loop-i
-invariant-loop-i l = Left (λ old new. old.calls < new.calls → MayCall new.act) l.fn.h.events l.i
+invariant-loop-i l = Left (λ old new. old.calls < new.calls → MayCall new.act) l.fn.h.history.events l.i

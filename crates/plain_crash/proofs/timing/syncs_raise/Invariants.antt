@@ -5,4 +5,4 @@ use Rattle.plain_crash.proofs.Nexts.{Left}
 use Rattle.plain_crash.proofs.timing.syncs_raise.Given as goal
 
 abbrev pub invariant-loop-i : goal.invariant-loop-i
-invariant-loop-i l = Left (λ old new. IsTrue (tells_durable new.reply) → old.calls < new.calls) l.fn.h.events l.i
+invariant-loop-i l = Left (λ old new. IsTrue (tells_durable new.reply) → old.calls < new.calls) l.fn.h.history.events l.i
