@@ -3,6 +3,7 @@
 
 mod failed;
 mod filling;
+mod gate;
 mod giving;
 mod memory_sink;
 mod memory_source;
@@ -16,6 +17,7 @@ mod trickle;
 
 pub use failed::Failed;
 pub use filling::fill;
+pub use gate::{Gate, NoGate};
 pub use giving::give_all;
 pub use memory_sink::MemSink;
 pub use memory_source::MemSource;

@@ -2,6 +2,7 @@
 //! value's history.
 #![tactic(auto)]
 
+mod bells;
 mod keeps;
 mod rule;
 mod steps;

@@ -8,13 +8,15 @@ ghost use Rattle.bv_turn.specs.Views.{fresh};
 
 use crate::keeps::Keeps;
 use crate::rule::{About, Draw, Look, Merge, Note, Pass, Peel};
+use crate::bells;
 use crate::turn::{Held, Share, Turn};
 use crate::view::View;
 use atomic_table::{Refused, Seat, Table};
 use std::alloc::{AllocError, Global};
+use std::hint::spin_loop;
 use std::snapshot::Snapshot;
 use std::sync::Wait;
-use std::thread;
+use std::sync::atomic::Ordering::SeqCst;
 
 /// The word from which each share draws its ticket.
 const TICKET: usize = 0;
@@ -22,6 +24,8 @@ const TICKET: usize = 0;
 const SERVING: usize = 1;
 /// The word with the number of entries.
 const NOTES: usize = 2;
+/// How often the share that is served next looks before it sleeps.
+const LOOKS: u32 = 1_000;
 /// The slot of the value.
 const VALUE: usize = 0;
 
@@ -62,7 +66,8 @@ impl<T: Keeps> Turn<T> {
         slots.push_reserved(Some(value));
         match Table::new(alloc, &[0, 0, 0], slots, &about) {
             Ok((table, mut seat)) => {
-                let turn = Turn { table };
+                let bells = bells::new();
+                let turn = Turn { table, bells };
                 share_out(&turn, &mut seat, seats, &mut shares);
                 Ok((turn, shares))
             }
@@ -111,7 +116,10 @@ impl<T: Keeps> Turn<T> {
         let old = shared.exchange(&mut share.seat, VALUE, Some(value));
         let None = old else { unreachable!() };
         shared.store::<Note<T>>(&mut share.seat, NOTES, count);
-        shared.fetch_add::<Pass<T>>(&mut share.seat, SERVING, 1);
+        let served = shared.fetch_add::<Pass<T>>(&mut share.seat, SERVING, 1);
+        // The share that is served now, and the one behind it, which then looks out for its turn.
+        bells::ring(&self.bells, served.wrapping_add(1));
+        bells::ring(&self.bells, served.wrapping_add(2));
     }
 
     /// The value. All shares of the turn are given back for it.
@@ -155,12 +163,38 @@ impl<T: Keeps> Turn<T> {
         ensures took { Took T.session T.entries T.basis share.old.seat.me share.new.seat.me }
     {
         for _ in rt.forever() {
+            if self.look_out(share, ticket) {
+                return;
+            }
+            let bell = bells::of(&self.bells, ticket);
+            bell.store(1, SeqCst);
+            // Whoever passes the value on from here on finds the bell set.
             if self.look(share, ticket) {
                 return;
             }
-            thread::yield_now();
+            bell.park(rt, 1);
         }
         unreachable!()
+    }
+
+    // Looks for a while where at most one share is to be served before this one, and once elsewhere.
+    fn look_out(&self, share: &mut Share<T>, ticket: u64) -> bool
+        requires this { IsOf self.now share.old }
+        requires waits { Waits ticket share.old.seat.me.0 share.old.seat.me }
+        ensures this { IsOf self.now share.new × (session_of share.new ≡ session_of share.old) }
+        ensures took { result ≡ true
+            → Took T.session T.entries T.basis share.old.seat.me share.new.seat.me }
+        ensures not { result ≡ false → share.new.seat.me ≡ share.old.seat.me }
+    {
+        let ahead = ticket.wrapping_sub(self.table.shared.peek(SERVING));
+        let looks = if ahead <= 1 { LOOKS } else { 1 };
+        for _ in 0..looks {
+            if self.look(share, ticket) {
+                return true;
+            }
+            spin_loop();
+        }
+        false
     }
 
     fn take(&self, share: &mut Share<T>) -> Held<T>
@@ -184,7 +218,7 @@ impl<T: Keeps> Turn<T> {
         requires all { length seat.me.0.parts ≡ seats_of self }
         ensures { Closed T.session T.entries T.basis seat.me.0.parts result }
     {
-        let Turn { table } = self;
+        let Turn { table, bells: _ } = self;
         let mut closed = table.close_with(seat);
         let Some(value) = closed.take(VALUE) else {
             unreachable!()

@@ -6,12 +6,19 @@ use crate::rule::{About, Law};
 use crate::view::View;
 use atomic_table::{Seat, Table};
 use std::alloc::Global;
+use std::sync::atomic::AtomicU64;
+
+/// How many bells a turn has: as many as tickets may be out.
+pub(crate) const BELLS: usize = 16;
 
 /// A lock that serves its shares in the order of their tickets.
 ///
 /// It has no `Drop`: its value comes out by `close` alone, which takes every share.
 pub struct Turn<T: Keeps> {
     pub(crate) table: Table<Option<T>, View<T::Entry, T::Basis>, About<T>, Law<T>, Global>,
+    /// On its bell a share sleeps whose ticket is far from being served: that of its ticket modulo
+    /// their number. A bell that isn't 0 has, or had, a sleeper. No promise rests on them.
+    pub(crate) bells: [AtomicU64; BELLS],
     ghost words: { table.shared.table_id.words ≡ 3 },
     ghost slots: { table.shared.table_id.slots ≡ 1 },
     ghost seats: { 0 < table.shared.key.seats },

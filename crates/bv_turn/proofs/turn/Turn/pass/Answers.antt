@@ -22,8 +22,8 @@ store-requires g c =
       notes s _ _ en ba _ _ _ v l p.0.session p.0.basis p.0.entries _ mine (ap (λ w. w.taken) was ∙ out.1) (ap (λ w. w.parts) was ∙ p.1) known may c.count-count.ensures.count,
     )
 
-pub fetch_add-requires : goal.fetch_add-requires
-fetch_add-requires g c =
+pub fetch_add-served-requires : goal.fetch_add-served-requires
+fetch_add-served-requires g c =
     let m = c.args.share.now in let v = c.args.held.value in let out = c.requires.out in let e = c.exchange-old.ensures.3 in
     let s = g.T.Keeps.session in let en = g.T.Keeps.entries in let ba = g.T.Keeps.basis in
     let l = taken_of m.seat.me.0 in let p = only m.seat.me.0.parts m.session m.one in
@@ -48,5 +48,5 @@ returns-clause-list g c =
     let may = subst (λ k. MayGive s 0 (ba v) en ba k l (en v)) (sym p.2) c.requires.entries in
     let told = c.store.ensures.2 in
     let view_is = told.1 ∙ (λ i. noted (was i) (drop (length (taken_of (was i))) (carried en (mine i)))) ∙ noted_is s 0 (ba v) en ba m.seat.me.0 l (en v) p.0.session p.0.basis p.0.entries out.1 p.1 known may in
-    ap (λ w. map (λ x. x.1) (first_entries w.parts)) c.fetch_add.ensures.2.1 ∙ ap (λ w. map (λ x. x.1) (first_entries w.parts)) view_is
+    ap (λ w. map (λ x. x.1) (first_entries w.parts)) c.fetch_add-served.ensures.2.1 ∙ ap (λ w. map (λ x. x.1) (first_entries w.parts)) view_is
     ∙ numbered-entries_of s p.0.session 0 (en v) ∙ ap (λ k. entries_of s k (en v)) p.2
