@@ -3,6 +3,12 @@
 use Rattle.std.specs.Prelude.{◌≡◌, ℕ, ◌-◌, ◌<◌, ◌≤◌, List, ◌++◌, length, take, Option, None, Some}
 use Rattle.std.specs.Io.KnownBytes.{Appends, Consumes, IsAtEnd}
 
+-- A source or a sink: the bytes that a source has left or a sink was given, where it tells them,
+-- and how many of its calls have failed.
+pub record Stream : Type 0 where
+  pub told : Option (List ℕ)
+  pub fault_count : ℕ
+
 -- one call moved n bytes from the front of what was left into the buffer: none only at the end,
 -- or with no room
 pub record Takes (old new : Option (List ℕ)) (buffer : List ℕ) (n : ℕ) : Type 0 where

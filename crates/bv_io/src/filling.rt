@@ -8,9 +8,12 @@ use crate::{Failed, Source};
 /// Takes bytes until `into` is full or the input ends, and says how many came. After `Failed` those
 /// that came are gone, and `into` may hold anything.
 pub fn fill<S: Source>(source: &mut S, into: &mut [u8]) -> Result<usize, Failed>
-    ensures ok { IfOk result (λ n. Fills (S.left source.old) (S.left source.new) into.new n) }
-    ensures err { OnErr result (TakesFewer (S.left source.old) (S.left source.new) into.old) }
-    ensures faults { CountsFaults (S.faults source.old) (S.faults source.new) result }
+    ensures ok { IfOk result
+        (λ n. Fills (S.seen source.old).told (S.seen source.new).told into.new n) }
+    ensures err { OnErr result
+        (TakesFewer (S.seen source.old).told (S.seen source.new).told into.old) }
+    ensures faults { CountsFaults
+        (S.seen source.old).fault_count (S.seen source.new).fault_count result }
 {
     let mut filled = 0;
     while filled < into.len() {

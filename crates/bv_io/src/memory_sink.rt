@@ -60,9 +60,7 @@ impl MemSink {
 }
 
 impl Sink for MemSink {
-    ghost given = { λ s. Some s.given };
-
-    ghost faults = { λ s. s.faults };
+    ghost seen = { λ s. record { told = Some s.given; fault_count = s.faults } };
 
     fn give(&mut self, from: &[u8]) -> Result<usize, Failed>
         ensures ok { IfOk result

@@ -47,9 +47,7 @@ impl MemSource {
 }
 
 impl Source for MemSource {
-    ghost left = { λ s. Some s.left };
-
-    ghost faults = { λ s. s.faults };
+    ghost seen = { λ s. record { told = Some s.left; fault_count = s.faults } };
 
     fn take(&mut self, into: &mut [u8]) -> Result<usize, Failed>
         ensures ok { IfOk result (λ n. Takes (Some self.old.left) (Some self.new.left) into.new n) }

@@ -45,12 +45,12 @@ pub fn read_all<S: Source>(
     limit: u64,
 ) -> Result<Vec<u8>, ReadAllFault>
     ensures ok { IfOk result
-        (λ bytes. TakesAll (S.left source.old) (S.left source.new) bytes.items) }
-    ensures err { OnErr result (TakesSome (S.left source.old) (S.left source.new)) }
-    ensures too_long { IfSome (taken_count (S.left source.old) (S.left source.new))
+        (λ bytes. TakesAll (S.seen source.old).told (S.seen source.new).told bytes.items) }
+    ensures err { OnErr result (TakesSome (S.seen source.old).told (S.seen source.new).told) }
+    ensures too_long { IfSome (taken_count (S.seen source.old).told (S.seen source.new).told)
         (λ n. (n ≤ limit + 1) × ((result ≡ Err ReadAllFault.TooLong) ↔ (limit < n))) }
     ensures faults { CountsFaultsWhere (result ≡ Err ReadAllFault.ReadFault)
-        (S.faults source.old) (S.faults source.new) }
+        (S.seen source.old).fault_count (S.seen source.new).fault_count }
 {
     let mut bytes = Vec::new(alloc);
     let mut piece = [0; PIECE];

@@ -13,16 +13,16 @@ pub struct Trickle<T> {
 }
 
 impl<S: Source> Source for Trickle<S> {
-    ghost left = { λ t. S.left t.inner };
-
-    ghost faults = { λ t. S.faults t.inner };
+    ghost seen = { λ t. S.seen t.inner };
 
     fn take(&mut self, into: &mut [u8]) -> Result<usize, Failed>
         ensures ok { IfOk result
-            (λ n. Takes (S.left self.old.inner) (S.left self.new.inner) into.new n) }
+            (λ n. Takes (S.seen self.old.inner).told (S.seen self.new.inner).told into.new n) }
         ensures one { IfOk result (λ n. n ≤ 1) }
-        ensures err { OnErr result (Keeps (S.left self.old.inner) (S.left self.new.inner)) }
-        ensures faults { CountsFaults (S.faults self.old.inner) (S.faults self.new.inner) result }
+        ensures err { OnErr result
+            (Keeps (S.seen self.old.inner).told (S.seen self.new.inner).told) }
+        ensures faults { CountsFaults
+            (S.seen self.old.inner).fault_count (S.seen self.new.inner).fault_count result }
     {
         let room = into.len().min(1);
         self.inner.take(&mut into[..room])
@@ -30,16 +30,16 @@ impl<S: Source> Source for Trickle<S> {
 }
 
 impl<K: Sink> Sink for Trickle<K> {
-    ghost given = { λ t. K.given t.inner };
-
-    ghost faults = { λ t. K.faults t.inner };
+    ghost seen = { λ t. K.seen t.inner };
 
     fn give(&mut self, from: &[u8]) -> Result<usize, Failed>
         ensures ok { IfOk result
-            (λ n. Gives (K.given self.old.inner) (K.given self.new.inner) from.now n) }
+            (λ n. Gives (K.seen self.old.inner).told (K.seen self.new.inner).told from.now n) }
         ensures one { IfOk result (λ n. n ≤ 1) }
-        ensures err { OnErr result (Keeps (K.given self.old.inner) (K.given self.new.inner)) }
-        ensures faults { CountsFaults (K.faults self.old.inner) (K.faults self.new.inner) result }
+        ensures err { OnErr result
+            (Keeps (K.seen self.old.inner).told (K.seen self.new.inner).told) }
+        ensures faults { CountsFaults
+            (K.seen self.old.inner).fault_count (K.seen self.new.inner).fault_count result }
     {
         self.inner.give(&from[..from.len().min(1)])
     }

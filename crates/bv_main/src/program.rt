@@ -26,13 +26,13 @@ pub fn answer<F: DiskFiles, S: Source, K: Sink>(
 ) -> Status
     ensures { (AsksNothing (map string_bytes words.now) × (files.new ≡ files.old)
         × IsRefused refusal.Usage result
-        (change (S.left input.old) (S.left input.new) (S.faults input.old) (S.faults input.new))
-        (change (K.given out.old) (K.given out.new) (K.faults out.old) (K.faults out.new)))
+        (change (S.seen input.old) (S.seen input.new))
+        (change (K.seen out.old) (K.seen out.new)))
         ⊎ ((request : Request) × Asks (map string_bytes words.now) request
         × Does F.Disk.seen F.fault_count F.open_gives F.make_gives F.close_gives
         HELP.now VERSION.now request files.old files.new result
-        (change (S.left input.old) (S.left input.new) (S.faults input.old) (S.faults input.new))
-        (change (K.given out.old) (K.given out.new) (K.faults out.old) (K.faults out.new))) }
+        (change (S.seen input.old) (S.seen input.new))
+        (change (K.seen out.old) (K.seen out.new))) }
 {
     match Request::parse(words) {
         Some(Request::Help) => print(out, HELP.as_bytes()),
@@ -60,8 +60,8 @@ fn run_on_word<F: DiskFiles, S: Source, K: Sink>(
     requires { HasFileRoom device }
     ensures { RunsOnWord F.Disk.seen F.fault_count F.open_gives F.make_gives F.close_gives
         device.entry files.old files.new (map string_bytes command.now) result
-        (change (S.left input.old) (S.left input.new) (S.faults input.old) (S.faults input.new))
-        (change (K.given out.old) (K.given out.new) (K.faults out.old) (K.faults out.new)) }
+        (change (S.seen input.old) (S.seen input.new))
+        (change (K.seen out.old) (K.seen out.new)) }
 {
     match device {
         DeviceWord::Mem { blocks } => match MemDevice::new(alloc, blocks) {
@@ -90,8 +90,8 @@ fn run_on_file<F: DiskFiles, S: Source, K: Sink>(
 ) -> Status
     ensures { RunsOnFile F.Disk.seen F.fault_count F.open_gives F.make_gives F.close_gives
         made files.old files.new (map string_bytes command.now) result
-        (change (S.left input.old) (S.left input.new) (S.faults input.old) (S.faults input.new))
-        (change (K.given out.old) (K.given out.new) (K.faults out.old) (K.faults out.new)) }
+        (change (S.seen input.old) (S.seen input.new))
+        (change (K.seen out.old) (K.seen out.new)) }
 {
     match made {
         Ok(dev) => {
@@ -113,8 +113,8 @@ fn run_on<D: Device + Drop, S: Source, K: Sink>(
 ) -> Status
     ensures { RunsOn (D.seen dev)
         (map string_bytes command.now) result
-        (change (S.left input.old) (S.left input.new) (S.faults input.old) (S.faults input.new))
-        (change (K.given out.old) (K.given out.new) (K.faults out.old) (K.faults out.new)) }
+        (change (S.seen input.old) (S.seen input.new))
+        (change (K.seen out.old) (K.seen out.new)) }
 {
     let (status, _) = run(alloc, command, dev, input, out);
     status

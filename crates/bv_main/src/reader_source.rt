@@ -22,9 +22,7 @@ impl<R: Read> ReaderSource<R> {
 }
 
 impl<R: Read> Source for ReaderSource<R> {
-    ghost left = { λ s. R.remaining s.reader };
-
-    ghost faults = { λ s. s.faults };
+    ghost seen = { λ s. record { told = R.remaining s.reader; fault_count = s.faults } };
 
     fn take(&mut self, into: &mut [u8]) -> Result<usize, Failed> {
         for _ in 0..u64::MAX {

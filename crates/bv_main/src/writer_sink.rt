@@ -22,9 +22,7 @@ impl<W: Write> WriterSink<W> {
 }
 
 impl<W: Write> Sink for WriterSink<W> {
-    ghost given = { λ s. W.contents s.writer };
-
-    ghost faults = { λ s. s.faults };
+    ghost seen = { λ s. record { told = W.contents s.writer; fault_count = s.faults } };
 
     fn give(&mut self, from: &[u8]) -> Result<usize, Failed> {
         if from.is_empty() {

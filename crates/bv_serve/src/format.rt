@@ -23,11 +23,11 @@ pub(crate) fn format<D: Device, K: Sink>(dev: &mut D, geometry: Geometry, out: &
     requires { IsBetween 1 geometry.version 2 }
     ensures runs { (input : Change) → LeavesAlone input → RunsFormat geometry result
         (D.seen dev.old) (D.seen dev.new)
-        input (change (K.given out.old) (K.given out.new) (K.faults out.old) (K.faults out.new)) }
+        input (change (K.seen out.old) (K.seen out.new)) }
     ensures complete { counts_or_fault geometry ≡ Ok tt
         → total_blocks geometry ≤ (D.seen dev.old).block_count
         → ¬ Rose (D.seen dev.old).fault_count (D.seen dev.new).fault_count
-        → ¬ Rose (K.faults out.old) (K.faults out.new) → result ≡ status.Ok }
+        → ¬ Rose (K.seen out.old).fault_count (K.seen out.new).fault_count → result ≡ status.Ok }
     ensures untouched { result ≡ status.Volume → dev.new ≡ dev.old }
 {
     match bv_format::format(dev, geometry) {

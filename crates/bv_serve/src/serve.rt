@@ -23,8 +23,8 @@ pub fn run<D: Device, S: Source, K: Sink>(
 ) -> (Status, D)
     ensures serves { Serves (map string_bytes words.now) result.0
         (D.seen dev) (D.seen result.1)
-        (change (S.left input.old) (S.left input.new) (S.faults input.old) (S.faults input.new))
-        (change (K.given out.old) (K.given out.new) (K.faults out.old) (K.faults out.new)) }
+        (change (S.seen input.old) (S.seen input.new))
+        (change (K.seen out.old) (K.seen out.new)) }
     ensures untouched { LeavesDevice (map string_bytes words.now) result.0 → result.1 ≡ dev }
 {
     run_plain(alloc, words, dev, input, out)
@@ -40,8 +40,8 @@ pub fn run_plain<D: Device, S: Source, K: Sink>(
 ) -> (Status, D)
     ensures serves { Serves (map string_bytes words.now) result.0
         (D.seen dev) (D.seen result.1)
-        (change (S.left input.old) (S.left input.new) (S.faults input.old) (S.faults input.new))
-        (change (K.given out.old) (K.given out.new) (K.faults out.old) (K.faults out.new)) }
+        (change (S.seen input.old) (S.seen input.new))
+        (change (K.seen out.old) (K.seen out.new)) }
     ensures untouched { LeavesDevice (map string_bytes words.now) result.0 → result.1 ≡ dev }
 {
     match Command::parse(words) {

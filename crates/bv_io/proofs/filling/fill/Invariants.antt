@@ -5,8 +5,8 @@ use Rattle.bv_io.proofs.filling.fill.Given as goal
 abbrev pub invariant-loop-filled : goal.invariant-loop-filled
 invariant-loop-filled g l = record {
   within : l.filled ≤ length l.into;
-  moved : Consumes (g.S.Source.left l.fn.source) (g.S.Source.left l.source) (take l.filled l.into);
-  faults : g.S.Source.faults l.source ≡ g.S.Source.faults l.fn.source;
+  moved : Consumes (g.S.Source.seen l.fn.source).told (g.S.Source.seen l.source).told (take l.filled l.into);
+  faults : (g.S.Source.seen l.source).fault_count ≡ (g.S.Source.seen l.fn.source).fault_count;
 }
 
 abbrev pub decreases-loop-filled : goal.decreases-loop-filled

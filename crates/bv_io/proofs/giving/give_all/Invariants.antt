@@ -4,8 +4,8 @@ use Rattle.bv_io.proofs.giving.give_all.Given as goal
 
 abbrev pub invariant-loop-rest : goal.invariant-loop-rest
 invariant-loop-rest g l = record {
-  given : GivesFront (g.K.Sink.given l.fn.sink) (g.K.Sink.given l.sink) l.bytes l.rest;
-  faults : g.K.Sink.faults l.sink ≡ g.K.Sink.faults l.fn.sink;
+  given : GivesFront (g.K.Sink.seen l.fn.sink).told (g.K.Sink.seen l.sink).told l.bytes l.rest;
+  faults : (g.K.Sink.seen l.sink).fault_count ≡ (g.K.Sink.seen l.fn.sink).fault_count;
 }
 
 abbrev pub decreases-loop-rest : goal.decreases-loop-rest

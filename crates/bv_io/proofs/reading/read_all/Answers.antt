@@ -8,6 +8,6 @@ returns-then-count-room-clause-err g c = (_, Consumes-trans _ _ _ _ _ c.loop-byt
 
 pub returns-in_err-extend_from_slice-clause-err : goal.returns-in_err-extend_from_slice-clause-err
 returns-in_err-extend_from_slice-clause-err g c =
-    let some : TakesSome (g.S.Source.left c.args.source.now) (g.S.Source.left c.take.new.self) =
+    let some : TakesSome (g.S.Source.seen c.args.source.now).told (g.S.Source.seen c.take.new.self).told =
     (_, Consumes-trans _ _ _ _ _ c.loop-bytes.invariant.taken c.in_ok-count.ensures.ok.moved) in
     MatchResult-from_err c.from_residual-in_err-extend_from_slice.result _ _ c.from_residual-in_err-extend_from_slice.ensures.0 (λ _. some)
