@@ -13,7 +13,7 @@ use Rattle.spec_tree.proofs.SizesLemmas.{digests_at-more}
 use Rattle.spec_tree.proofs.TreeLemmas.{length-level_of}
 use Rattle.bv_merkle.specs.Built.{tree_levels}
 use Rattle.bv_merkle.specs.Hasher.{KeepsOf}
-use Rattle.bv_merkle.specs.Kept.{BeginsWith, row, tree_shape}
+use Rattle.bv_merkle.specs.TreeShape.{BeginsWith, row, tree_shape}
 use Rattle.bv_merkle.specs.Levels.{all_blocks}
 
 -- the bytes so far, and those that were added next

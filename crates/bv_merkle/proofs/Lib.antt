@@ -2,7 +2,7 @@ pub mod BuilderLemmas
 pub mod CallerLemmas
 pub mod CloseLemmas
 pub mod HashingLemmas
-pub mod KeptLemmas
+pub mod TreeShapeLemmas
 pub mod LevelsLemmas
 pub mod SideLemmas
 pub mod SizesLemmas

@@ -6,7 +6,7 @@ use Rattle.std.proofs.Math.Seq.{map-set_same}
 use Rattle.spec_tree.specs.declared.Digest.{Digest}
 use Rattle.spec_tree.specs.Tree.{block_digest, digest_block}
 use Rattle.bv_merkle.specs.declared.hasher.RootHasher.{RootHasher}
-use Rattle.bv_merkle.specs.Kept.{row, put_block}
+use Rattle.bv_merkle.specs.TreeShape.{row, put_block}
 use Rattle.bv_merkle.specs.Levels.{whole_above, whole_blocks}
 use Rattle.bv_merkle.specs.Hasher.{IsDigest, block_at, put_at, keep_at, KeepsOf, StandsAt, Stands, shape_of}
 use Rattle.bv_merkle.proofs.LevelsLemmas.{digest_block-put, whole_above-same, whole_above-more, whole_blocks-same, whole_blocks-more, length-whole_blocks, AreDigests-append}

@@ -2,7 +2,7 @@
 use Rattle.std.specs.Prelude.{◌≡◌, ℕ, ◌+◌, List, length, take, drop, Some}
 use Rattle.bv_merkle.specs.declared.builder.Builder.{Builder}
 use Rattle.bv_merkle.specs.Hasher.{Holds, shape_of}
-use Rattle.bv_merkle.specs.Kept.{tree_shape}
+use Rattle.bv_merkle.specs.TreeShape.{tree_shape}
 
 -- the size that the builder was made for
 abbrev pub size_of : Builder → ℕ

@@ -6,7 +6,7 @@ use Rattle.std.specs.Option.{option_map}
 use Rattle.spec_tree.specs.declared.Digest.{Digest}
 use Rattle.spec_tree.specs.Tree.{block_digest, digest_block, level_above}
 use Rattle.bv_merkle.specs.declared.hasher.RootHasher.{RootHasher}
-use Rattle.bv_merkle.specs.Kept.{put_block, BeginsWith}
+use Rattle.bv_merkle.specs.TreeShape.{put_block, BeginsWith}
 use Rattle.bv_merkle.specs.Levels.{all_blocks, data_digests, whole_above, whole_blocks}
 
 -- the block of digests at a level

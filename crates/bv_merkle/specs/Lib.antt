@@ -3,5 +3,5 @@ pub mod Builder
 pub mod Built
 pub mod Hasher
 pub mod Hashing
-pub mod Kept
+pub mod TreeShape
 pub mod Levels

@@ -3,7 +3,7 @@
 ghost use Rattle.std.specs.Prelude.{◌≡◌, ◌%◌, ◌<◌, length};
 
 use crate::hasher::RootHasher;
-use crate::kept::Kept;
+use crate::kept_tree::KeptTree;
 use crate::{Block, WINDOW_LEN};
 use spec_tree::Digest;
 use std::alloc::{AllocError, Global};
@@ -54,7 +54,7 @@ impl Builder {
         ensures size { IfOk result (λ builder. size_of builder ≡ size) }
         ensures built { IfOk result (λ builder. built builder ≡ 0) }
     {
-        let kept = Kept::new(alloc, size)?;
+        let kept = KeptTree::new(alloc, size)?;
         let pending = vec![in alloc; 0u8; 65536]?;
         Ok(Builder {
             size,

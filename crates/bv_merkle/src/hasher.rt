@@ -7,7 +7,7 @@ ghost use Rattle.bv_merkle.specs.Levels.{all_blocks};
 ghost use Rattle.bv_merkle.specs.Hasher.{Closes, Holds, KeepsOf, Stands, StandsAt, IsDigest, taken as taken_of, block_at, put_at, keep_at, shape_of, with_digest};
 
 use crate::hashing::block_digest;
-use crate::kept::Kept;
+use crate::kept_tree::KeptTree;
 use crate::window::window_digests;
 use crate::{BLOCK_LEN, Block, DIGESTS};
 use spec_tree::Digest;
@@ -23,7 +23,7 @@ const DIGEST_LEN: usize = 32;
 pub struct RootHasher {
     taken: u64,
     blocks: [Block; 7],
-    kept: Option<Kept>,
+    kept: Option<KeptTree>,
 }
 
 impl RootHasher {
@@ -40,7 +40,7 @@ impl RootHasher {
     }
 
     /// A hasher that has taken no bytes, and keeps the blocks of the levels.
-    pub(crate) fn keeping(kept: Kept) -> RootHasher
+    pub(crate) fn keeping(kept: KeptTree) -> RootHasher
         ensures taken { taken_of result ≡ 0 }
         ensures holds { Holds result [] }
         ensures kept { result.kept ≡ Some kept }
@@ -123,7 +123,7 @@ impl RootHasher {
     }
 
     // The blocks that were kept.
-    pub(crate) fn into_kept(self) -> Option<Kept>
+    pub(crate) fn into_kept(self) -> Option<KeptTree>
         ensures { result ≡ self.kept }
     {
         self.kept

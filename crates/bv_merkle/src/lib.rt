@@ -4,7 +4,7 @@
 mod builder;
 mod hasher;
 mod hashing;
-mod kept;
+mod kept_tree;
 mod rooting;
 mod sizes;
 mod window;
@@ -15,8 +15,8 @@ pub use hasher::RootHasher;
 pub use hashing::block_digest;
 pub use rooting::root;
 pub use sizes::{blocks_needed, blocks_needed_of, levels, tree_blocks, tree_blocks_of, windows};
-pub use window::window_digests;
 pub use spec_tree::Digest;
+pub use window::window_digests;
 
 /// The bytes of a block.
 const BLOCK_LEN: usize = 8192;

@@ -11,8 +11,8 @@ use Rattle.bv_model.proofs.Takings.{need_in, need_at, need_found}
 use Rattle.bv_model.specs.Laws.{RoomIsExact}
 use Rattle.bv_model.specs.Rescan.{state_at, goes_with, standing_for}
 use Rattle.bv_model.specs.Taking.{add_need, NeedsAt, NeedsFor, NeedsBy, NeedsOf, adding_of, by_deed, by_adding, counted_again}
-use Rattle.bv_model.specs.declared.adding.Adding.{Adding}
-use Rattle.bv_model.specs.declared.adding.Adding.TheVariants as addings
+use Rattle.bv_model.specs.declared.adding.AddEffect.{AddEffect}
+use Rattle.bv_model.specs.declared.adding.AddEffect.TheVariants as addings
 use Rattle.bv_model.specs.declared.rescan.Standing.{Standing}
 use Rattle.bv_model.specs.declared.room.Taken.{Taken}
 use Rattle.spec_core.proofs.Deeds.{alike, deed_stopped}
@@ -64,7 +64,7 @@ deed_needs s (Closes p) = go (held s.slots p)
 deed_needs s (Unlinks r) = (need_at s.map r, need_found s.map r)
 deed_needs s _ = (0, tt)
 
-needs : (g : Setting) (s : State) (a : Adding) (d : Deed) → (need : ℕ) × NeedsBy g s a d need
+needs : (g : Setting) (s : State) (a : AddEffect) (d : Deed) → (need : ℕ) × NeedsBy g s a d need
 needs g s (addings.Begins r n) d = (need_of g.version n, refl)
 needs g s (addings.Ends r) d = (add_need g s r, refl)
 needs g s _ d = deed_needs s d

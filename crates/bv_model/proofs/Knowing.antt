@@ -25,7 +25,7 @@ use Rattle.spec_core.specs.Step.{Chosen}
 use Rattle.bv_model.specs.Taking.{Knows, known_next, adding_of, begin_adding, admit_adding, settle_adding, add_need, NeedsAt}
 use Rattle.spec_core.specs.declared.act.Act.{Act}
 use Rattle.spec_core.specs.declared.act.Act.TheVariants.{Begin, Admit, Put, Settle, Retire, Open, Fetch, Read, Scan, Close, Unlink, Sync, List as ListAll, Unmount}
-use Rattle.bv_model.specs.declared.adding.Adding.TheVariants.{Begins, Ends, Publishes}
+use Rattle.bv_model.specs.declared.adding.AddEffect.TheVariants.{Begins, Ends, Publishes}
 use Rattle.spec_core.specs.declared.event.CoreEvent.{CoreEvent}
 use Rattle.spec_core.specs.declared.map_change.MapChange.TheVariants.{Publish}
 use Rattle.spec_core.specs.declared.place.Place.{Place}

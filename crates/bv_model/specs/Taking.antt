@@ -12,8 +12,8 @@ use Rattle.spec_core.specs.Room.{blob_need}
 use Rattle.spec_core.specs.State.{State, find, held}
 use Rattle.spec_core.specs.declared.act.Act.{Act}
 use Rattle.spec_core.specs.declared.act.Act.TheVariants.{Begin, Admit, Settle, Retire}
-use Rattle.bv_model.specs.declared.adding.Adding.{Adding}
-use Rattle.bv_model.specs.declared.adding.Adding.TheVariants.{Nothing, Begins, Ends, Publishes}
+use Rattle.bv_model.specs.declared.adding.AddEffect.{AddEffect}
+use Rattle.bv_model.specs.declared.adding.AddEffect.TheVariants.{Nothing, Begins, Ends, Publishes}
 use Rattle.spec_core.specs.declared.deed.Deed.{Deed}
 use Rattle.spec_core.specs.declared.deed.Deed.TheVariants as deeds
 use Rattle.spec_core.specs.declared.reply.Reply.{Reply}
@@ -27,22 +27,22 @@ use Rattle.spec_core.specs.declared.who.Who.{Who}
 -- ---- what an event does to the adds
 
 -- a begin that was granted puts an add under way
-abbrev pub begin_adding : Digest → ℕ → Reply → Adding
+abbrev pub begin_adding : Digest → ℕ → Reply → AddEffect
 begin_adding r n Granted = Begins r n
 begin_adding r n _ = Nothing
 
 -- an admit that was refused ends the add
-abbrev pub admit_adding : Digest → Reply → Adding
+abbrev pub admit_adding : Digest → Reply → AddEffect
 admit_adding r Admitted = Nothing
 admit_adding r _ = Ends r
 
 -- a settle ends the add, and may publish it
-abbrev pub settle_adding : Digest → Reply → Adding
+abbrev pub settle_adding : Digest → Reply → AddEffect
 settle_adding r Published = Publishes r
 settle_adding r _ = Ends r
 
 -- what an event does to the adds, by its act and reply
-abbrev pub adding_of : Act → Reply → Adding
+abbrev pub adding_of : Act → Reply → AddEffect
 adding_of (Begin r n) reply = begin_adding r n reply
 adding_of (Admit r) reply = admit_adding r reply
 adding_of (Settle r) reply = settle_adding r reply
@@ -56,7 +56,7 @@ abbrev pub add_ended : Digest → Known → Digest → Known
 add_ended r was x = cond (same_digest r x) (record was { adding = false }) was
 
 -- what is known of a root after an event, where new blobs get this version
-abbrev pub known_next : Digest → Known → ℕ → Adding → Known
+abbrev pub known_next : Digest → Known → ℕ → AddEffect → Known
 known_next r was version (Begins x n) =
     cond (same_digest r x)
     (record { blob = record { size = n; version = version }; adding = true })
@@ -88,7 +88,7 @@ NeedsFor s (deeds.Unlinks r) need = NeedsAt s r need
 NeedsFor s _ need = Unit {0}
 
 -- these are the blocks of an add that begins or ends, or else of the blob that the deed is about
-abbrev pub NeedsBy : Setting → State → Adding → Deed → ℕ → Type 0
+abbrev pub NeedsBy : Setting → State → AddEffect → Deed → ℕ → Type 0
 NeedsBy g s (Begins r n) deed need = need ≡ need_of g.version n
 NeedsBy g s (Ends r) deed need = need ≡ add_need g s r
 NeedsBy g s _ deed need = NeedsFor s deed need
@@ -126,7 +126,7 @@ by_deed t root need (deeds.Empties purges) = cond purges (all_freed (all_let_go 
 by_deed t root need _ = t
 
 -- the blocks after what an event does to the adds, or else by its deed
-abbrev pub by_adding : Taken → Standing → ℕ → Adding → Deed → Taken
+abbrev pub by_adding : Taken → Standing → ℕ → AddEffect → Deed → Taken
 by_adding t root need (Begins r n) deed = record t { all = t.all + need }
 by_adding t root need (Ends r) deed = record t { all = t.all - need }
 by_adding t root need _ deed = by_deed t root need deed

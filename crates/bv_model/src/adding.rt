@@ -8,7 +8,7 @@ use spec_tree::Digest;
 
 /// What an event does to the adds, by its act and reply.
 #[derive(Clone, Copy)]
-pub(crate) enum Adding {
+pub(crate) enum AddEffect {
     Nothing,
     /// An add of so many bytes is under way.
     Begins { root: Digest, size: u64 },
@@ -18,42 +18,42 @@ pub(crate) enum Adding {
     Publishes { root: Digest },
 }
 
-fn begun(root: Digest, size: u64, reply: Reply) -> Adding
+fn begun(root: Digest, size: u64, reply: Reply) -> AddEffect
     ensures { result ≡ T.begin_adding root size reply }
 {
     match reply {
-        Reply::Granted => Adding::Begins { root, size },
-        _ => Adding::Nothing,
+        Reply::Granted => AddEffect::Begins { root, size },
+        _ => AddEffect::Nothing,
     }
 }
 
-fn admitted(root: Digest, reply: Reply) -> Adding
+fn admitted(root: Digest, reply: Reply) -> AddEffect
     ensures { result ≡ T.admit_adding root reply }
 {
     match reply {
-        Reply::Admitted => Adding::Nothing,
-        _ => Adding::Ends { root },
+        Reply::Admitted => AddEffect::Nothing,
+        _ => AddEffect::Ends { root },
     }
 }
 
-fn settled(root: Digest, reply: Reply) -> Adding
+fn settled(root: Digest, reply: Reply) -> AddEffect
     ensures { result ≡ T.settle_adding root reply }
 {
     match reply {
-        Reply::Published => Adding::Publishes { root },
-        _ => Adding::Ends { root },
+        Reply::Published => AddEffect::Publishes { root },
+        _ => AddEffect::Ends { root },
     }
 }
 
 /// What an event does to the adds.
-pub(crate) fn adding_of(event: &CoreEvent) -> Adding
+pub(crate) fn adding_of(event: &CoreEvent) -> AddEffect
     ensures { result ≡ T.adding_of event.now.act event.now.reply }
 {
     match event.act {
         Act::Begin { root, size } => begun(root, size, event.reply),
         Act::Admit { root } => admitted(root, event.reply),
         Act::Settle { root } => settled(root, event.reply),
-        Act::Retire { root } => Adding::Ends { root },
+        Act::Retire { root } => AddEffect::Ends { root },
         Act::Put { .. }
         | Act::Open { .. }
         | Act::Fetch { .. }
@@ -63,6 +63,6 @@ pub(crate) fn adding_of(event: &CoreEvent) -> Adding
         | Act::Unlink { .. }
         | Act::Sync
         | Act::List
-        | Act::Unmount => Adding::Nothing,
+        | Act::Unmount => AddEffect::Nothing,
     }
 }

@@ -9,7 +9,7 @@ ghost use Rattle.spec_core.specs.Room as R;
 ghost use Rattle.spec_core.specs.State as S;
 ghost use Rattle.bv_model.specs.Taking as T;
 
-use crate::adding::{Adding, adding_of};
+use crate::adding::{AddEffect, adding_of};
 use crate::deed::{deed_of, fails};
 use crate::history::History;
 use crate::rescan::{Standing, held_after, standing_for};
@@ -75,11 +75,11 @@ fn opening_blocks(h: &History) -> u128
 }
 
 /// What is known of a root after an event that does this to the adds.
-fn known_next(root: Digest, was: Known, version: u32, adding: Adding) -> Known
+fn known_next(root: Digest, was: Known, version: u32, adding: AddEffect) -> Known
     ensures { result ≡ T.known_next root was version adding }
 {
     match adding {
-        Adding::Begins { root: x, size } => {
+        AddEffect::Begins { root: x, size } => {
             if root.cmp(&x).is_eq() {
                 Known {
                     blob: Blob { size, version },
@@ -89,7 +89,7 @@ fn known_next(root: Digest, was: Known, version: u32, adding: Adding) -> Known
                 was
             }
         }
-        Adding::Ends { root: x } | Adding::Publishes { root: x } => {
+        AddEffect::Ends { root: x } | AddEffect::Publishes { root: x } => {
             if root.cmp(&x).is_eq() {
                 Known {
                     adding: false,
@@ -99,7 +99,7 @@ fn known_next(root: Digest, was: Known, version: u32, adding: Adding) -> Known
                 was
             }
         }
-        Adding::Nothing => was,
+        AddEffect::Nothing => was,
     }
 }
 
@@ -164,9 +164,9 @@ fn event_need(h: &History, count: usize, event: &CoreEvent) -> u64
         T.NeedsOf (setting_of h.now.history) s event.now.who event.now.act event.now.reply result) }
 {
     match adding_of(event) {
-        Adding::Begins { size, .. } => blocks_needed_of(h.setting().version, size),
-        Adding::Ends { root } => add_need(h, count, root),
-        Adding::Publishes { .. } | Adding::Nothing => deed_need(h, count, deed_of(event)),
+        AddEffect::Begins { size, .. } => blocks_needed_of(h.setting().version, size),
+        AddEffect::Ends { root } => add_need(h, count, root),
+        AddEffect::Publishes { .. } | AddEffect::Nothing => deed_need(h, count, deed_of(event)),
     }
 }
 
@@ -258,21 +258,21 @@ impl Taken {
     }
 
     /// The blocks after what an event does to the adds, or else by its deed.
-    fn by_adding(self, root: Standing, need: u64, adding: Adding, deed: Deed) -> Taken
+    fn by_adding(self, root: Standing, need: u64, adding: AddEffect, deed: Deed) -> Taken
         requires { T.in_all self + need < 2 ^ 128 }
         ensures step { result ≡ T.by_adding self root need adding deed }
         ensures bound { T.in_all result ≤ T.in_all self + need }
     {
         match adding {
-            Adding::Begins { .. } => Taken {
+            AddEffect::Begins { .. } => Taken {
                 all: self.all + u128::from(need),
                 ..self
             },
-            Adding::Ends { .. } => Taken {
+            AddEffect::Ends { .. } => Taken {
                 all: self.all.saturating_sub(u128::from(need)),
                 ..self
             },
-            Adding::Publishes { .. } | Adding::Nothing => self.by_deed(root, need, deed),
+            AddEffect::Publishes { .. } | AddEffect::Nothing => self.by_deed(root, need, deed),
         }
     }
 

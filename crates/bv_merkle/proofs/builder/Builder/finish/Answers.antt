@@ -1,6 +1,6 @@
 use Rattle.std.proofs.Common.{◌≡◌, ℕ, List, ◌++◌, Some, map, take, length, subst, sym, ap, ◌∙◌}
 use Rattle.bv_merkle.specs.Hasher.{Holds, shape_of}
-use Rattle.bv_merkle.specs.Kept.{tree_shape}
+use Rattle.bv_merkle.specs.TreeShape.{tree_shape}
 use Rattle.bv_merkle.proofs.BuilderLemmas.{kept-whole, kept-some, all-bytes}
 use Rattle.bv_merkle.proofs.builder.Builder.finish.Goals as goal
 use Rattle.bv_merkle.proofs.builder.Builder.finish.Goals.{in-Some, in-None}

@@ -1,7 +1,7 @@
 //! The blocks of digests of a tree that is kept.
 
 ghost use Rattle.std.specs.Prelude.{◌≡◌, ℕ, IfOk, length, map};
-ghost use Rattle.bv_merkle.specs.Kept.{put_block, tree_shape};
+ghost use Rattle.bv_merkle.specs.TreeShape.{put_block, tree_shape};
 
 use crate::{BLOCK_LEN, Block, DIGESTS};
 use std::alloc::{AllocError, Global};
@@ -9,11 +9,11 @@ use std::marker::Model;
 
 /// The blocks of digests of each level, from level 1 upward.
 #[derive(Drop)]
-pub struct Kept {
+pub struct KeptTree {
     levels: Vec<Vec<Block>>,
 }
 
-impl Model for Kept {
+impl Model for KeptTree {
     ghost use Rattle.std.specs.Prelude.{ℕ, List, map};
 
     ghost Value = { List (List (List ℕ)) };
@@ -21,9 +21,9 @@ impl Model for Kept {
     ghost view = { λ kept. map (λ blocks. blocks.items) kept.levels.items };
 }
 
-impl Kept {
+impl KeptTree {
     /// The levels of a tree over so many bytes, all of whose blocks are zero.
-    pub fn new(alloc: Global, size: u64) -> Result<Kept, AllocError>
+    pub fn new(alloc: Global, size: u64) -> Result<KeptTree, AllocError>
         ensures { IfOk result (λ kept. map (λ blocks. length blocks) kept ≡ tree_shape size) }
     {
         let mut levels = Vec::new(alloc);
@@ -33,7 +33,7 @@ impl Kept {
             let blocks = zero_blocks(alloc, digests as usize)?;
             levels.push(blocks)?;
         }
-        Ok(Kept { levels })
+        Ok(KeptTree { levels })
     }
 
     /// The levels as lists of blocks.

@@ -1,7 +1,7 @@
 use Rattle.std.proofs.Common.{ap, ◌∙◌, refl, arith}
-use Rattle.bv_merkle.specs.Kept.{put_block}
-use Rattle.bv_merkle.proofs.KeptLemmas.{put_block-seen}
-use Rattle.bv_merkle.proofs.kept.Kept.keep.Goals as goal
+use Rattle.bv_merkle.specs.TreeShape.{put_block}
+use Rattle.bv_merkle.proofs.TreeShapeLemmas.{put_block-seen}
+use Rattle.bv_merkle.proofs.kept_tree.KeptTree.keep.Goals as goal
 
 pub returns-then-index-len : goal.returns-then-index-len
 returns-then-index-len c =

@@ -6,7 +6,7 @@ use Rattle.std.specs.Int.{div_ceil}
 use Rattle.std.proofs.lemmas.List.{map-append, map-set, get_or-map}
 use Rattle.spec_tree.specs.Tree.{data_blocks, digests_at}
 use Rattle.spec_tree.proofs.SizesLemmas.{range-suc}
-use Rattle.bv_merkle.specs.Kept.{put_block, tree_shape}
+use Rattle.bv_merkle.specs.TreeShape.{put_block, tree_shape}
 use Rattle.bv_merkle.proofs.SizesLemmas.{Reached, reached-zero, reached-more, reached-top}
 
 -- a write through a level of the list is a block put into the lists that it is seen as

@@ -1,7 +1,7 @@
 use Rattle.std.proofs.Common.{ℕ, ◌++◌, [], ◌∷◌, length, map, ap, ◌∙◌, arith}
 use Rattle.std.proofs.lemmas.List.{map-append}
-use Rattle.bv_merkle.proofs.KeptLemmas.{shape-seen, growing-zero, growing-more, growing-top}
-use Rattle.bv_merkle.proofs.kept.Kept.new.Goals as goal
+use Rattle.bv_merkle.proofs.TreeShapeLemmas.{shape-seen, growing-zero, growing-more, growing-top}
+use Rattle.bv_merkle.proofs.kept_tree.KeptTree.new.Goals as goal
 
 pub loop-digests-init : goal.loop-digests-init
 loop-digests-init c =
