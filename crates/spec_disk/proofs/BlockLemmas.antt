@@ -8,7 +8,7 @@ use Rattle.spec_disk.specs.declared.event.Event.{Event}
 use Rattle.spec_disk.specs.declared.event.Event.TheVariants.{Write, Sync}
 use Rattle.spec_disk.specs.Disk.{block, sector, now_after, synced_part, unsynced_part, synced_after}
 use Rattle.spec_disk.specs.Images.{written_to, pending, candidates, IsImage}
-use Rattle.spec_disk.specs.Laws.{AreWhole, WriteWhole}
+use Rattle.spec_disk.specs.Laws.{AreWhole}
 use Rattle.spec_disk.proofs.EventLemmas.{synced-append-unsynced, length-synced_after}
 use Rattle.spec_disk.proofs.ImageLemmas.{Contains-head, Contains-cons_cases, Contains-one, same_sectors, IsImageWith-from}
 
@@ -50,24 +50,6 @@ image-same_write base p j at ok image =
 
 -- Sizes of blocks
 
-WriteWhole-append : (p q : List Event) → WriteWhole (p ++ q) → WriteWhole p × WriteWhole q
-WriteWhole-append [] q whole = (tt, whole)
-WriteWhole-append (Write at bytes ok ∷ p) q whole = let parts = WriteWhole-append p q (whole.1) in ((whole.0, parts.0), parts.1)
-WriteWhole-append (Sync ok ∷ p) q whole = WriteWhole-append p q whole
-
-AreWhole-now_after : (d : List (List ℕ)) (p : List Event) → AreWhole d → WriteWhole p → AreWhole (now_after d p)
-AreWhole-now_after d [] blocks writes = blocks
-AreWhole-now_after d (Write at bytes true ∷ p) blocks writes = AreWhole-now_after (set d at bytes) p (All-set (λ w. length w ≡ 8192) d at bytes (writes.0) blocks) (writes.1)
-AreWhole-now_after d (Write at bytes false ∷ p) blocks writes = AreWhole-now_after d p blocks (writes.1)
-AreWhole-now_after d (Sync ok ∷ p) blocks writes = AreWhole-now_after d p blocks writes
-
-AreWhole-written_to : (b : ℕ) (p : List Event) → WriteWhole p → AreWhole (written_to b p)
-AreWhole-written_to b [] writes = All-nil (λ bytes. length bytes ≡ 8192)
-AreWhole-written_to b (Write at bytes ok ∷ p) writes =
-    elim (eqb at b) as (λ t. AreWhole (cond t (bytes ∷ written_to b p) (written_to b p)))
-    [ true ↦ All-cons (λ w. length w ≡ 8192) bytes (written_to b p) (writes.0) (AreWhole-written_to b p (writes.1)) | false ↦ AreWhole-written_to b p (writes.1) ]
-AreWhole-written_to b (Sync ok ∷ p) writes = AreWhole-written_to b p writes
-
 length-sector : (bytes : List ℕ) (s : ℕ) → length (sector bytes s) ≡ min 512 (length bytes - 512 * s)
 length-sector bytes s = length-take 512 (drop (512 * s) bytes) ∙ ap (λ (n : ℕ). min 512 n) (length-drop (512 * s) bytes)
 
@@ -86,12 +68,8 @@ length-block values x whole each =
     let past : min 512 (length x - 8192) ≡ 0 = length-one_of values x 16 whole (each 16) in
     omega (arith, last, past)
 
-pub image-whole : (base j : List (List ℕ)) (p : List Event) → AreWhole base → WriteWhole p → IsImage base p j → AreWhole j
-image-whole base j p blocks writes image k d below =
-    let parts = WriteWhole-append (synced_part p) (unsynced_part p) (subst WriteWhole (sym (synced-append-unsynced p)) writes) in
-    let synced : AreWhole (synced_after base p) = AreWhole-now_after base (synced_part p) blocks (parts.0) in
-    let held : length (block (synced_after base p) k) ≡ 8192 = synced k [] (omega (arith, below, image.as_long, length-synced_after base p)) in
-    let values : AreWhole (block (synced_after base p) k ∷ pending p k) =
-    All-cons (λ w. length w ≡ 8192) (block (synced_after base p) k) (pending p k) held (AreWhole-written_to k (unsynced_part p) (parts.1)) in
-    ap (λ (x : List ℕ). length x) (get_or_default j k d [] below)
-    ∙ length-block (block (synced_after base p) k ∷ pending p k) (block j k) values (λ s. image.each_sector k s)
+pub image-whole : (base j : List (List ℕ)) (p : List Event) (b : ℕ) → length (block (synced_after base p) b) ≡ 8192 → AreWhole (pending p b) → IsImage base p j → length (block j b) ≡ 8192
+image-whole base j p b held written image =
+    let values : AreWhole (block (synced_after base p) b ∷ pending p b) =
+    All-cons (λ w. length w ≡ 8192) (block (synced_after base p) b) (pending p b) held written in
+    length-block (block (synced_after base p) b ∷ pending p b) (block j b) values (λ s. image.each_sector b s)

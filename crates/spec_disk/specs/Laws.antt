@@ -31,12 +31,6 @@ pub record FailedLast (p : List Event) (b : ℕ) : Type 0 where
   pub no_sync : has_sync after ≡ false
   pub no_write : written_to b after ≡ []
 
--- every block of the disk has 8,192 bytes
+-- each of these blocks has 8,192 bytes
 abbrev pub AreWhole : Blocks → Type 0
-AreWhole disk = All (λ bytes. length bytes ≡ 8192) disk
-
--- every write of these events has 8,192 bytes
-abbrev pub WriteWhole : List Event → Type 0
-WriteWhole [] = Unit {0}
-WriteWhole (Write at bytes ok ∷ p) = (length bytes ≡ 8192) × WriteWhole p
-WriteWhole (Sync ok ∷ p) = WriteWhole p
+AreWhole blocks = All (λ bytes. length bytes ≡ 8192) blocks

@@ -6,7 +6,7 @@ ghost use Rattle.spec_disk.specs.declared.event.Event.{Event};
 ghost use Rattle.spec_disk.specs.declared.event.Event.TheVariants.{Write, Sync};
 ghost use Rattle.spec_disk.specs.Disk.{Blocks, block, sector, has_sync, now_after, synced_part, unsynced_part, synced_after, reads_right};
 ghost use Rattle.spec_disk.specs.Images.{pending, IsImage, IsSettled};
-ghost use Rattle.spec_disk.specs.Laws.{IsSyncedPart, IsImageWith, FailedLast, AreWhole, WriteWhole};
+ghost use Rattle.spec_disk.specs.Laws.{IsSyncedPart, IsImageWith, FailedLast, AreWhole};
 
 /// The synced part is the one longest prefix that ends with an Ok sync or is empty.
 pub fn synced_part_is_the_longest()
@@ -102,8 +102,9 @@ pub fn a_write_of_what_is_synced_changes_nothing()
         ↔ IsImage base p j }
 {}
 
-/// Where every block and every write has 8,192 bytes, every block of an image has.
-pub fn an_image_has_whole_blocks()
-    ensures { (base j : Blocks) (p : List Event)
-        → AreWhole base → WriteWhole p → IsImage base p j → AreWhole j }
+/// A block of an image has 8,192 bytes, where the synced one and each that is pending have.
+pub fn a_block_of_an_image_is_whole()
+    ensures { (base j : Blocks) (p : List Event) (b : ℕ)
+        → length (block (synced_after base p) b) ≡ 8192 → AreWhole (pending p b)
+        → IsImage base p j → length (block j b) ≡ 8192 }
 {}

@@ -10,9 +10,9 @@ mod one_event_more;
 pub use event::Event;
 pub use image::is_image;
 pub use laws::{
-    a_failure_leaves_known_images, a_settled_disk_goes_on_as_it_is, a_settled_disk_has_one_image,
-    a_sync_leaves_now, a_write_changes_sectors_of_its_block, a_write_of_one_sector_is_done_or_not,
-    a_write_of_what_is_synced_changes_nothing, an_image_has_whole_blocks,
+    a_block_of_an_image_is_whole, a_failure_leaves_known_images, a_settled_disk_goes_on_as_it_is,
+    a_settled_disk_has_one_image, a_sync_leaves_now, a_write_changes_sectors_of_its_block,
+    a_write_of_one_sector_is_done_or_not, a_write_of_what_is_synced_changes_nothing,
     an_image_stays_until_a_sync, an_unwritten_block_is_as_synced, no_event_leaves_the_base,
     reads_are_wrong_after_a_failed_write, synced_and_now_are_images, synced_part_is_the_longest,
 };

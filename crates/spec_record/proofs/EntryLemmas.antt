@@ -1,25 +1,27 @@
 -- An entry is read from its spelling alone.
 use Rattle.std.proofs.Common.{◌≡◌, ◌≤◌, ℕ, List, length, take, Some, refl, ap, sym, ◌∙◌, subst, arith}
+use Rattle.std.specs.Prelude.{All}
 use Rattle.std.specs.Result.{result_ok}
 use Rattle.std.proofs.lemmas.List.{take_all}
-use Rattle.spec_record.specs.Field.{field}
+use Rattle.spec_record.specs.Field.{IsBlock, field}
 use Rattle.spec_record.specs.Places.{block_in}
 use Rattle.spec_record.specs.Entry.{Entry, entry_tests, entry_in, entry_or_fault}
 use Rattle.spec_record.specs.EntryBlocks.{IsEntry, entry_blocks, entry_slots}
 use Rattle.spec_record.specs.Laws.{EntryIsRead, EntryTakesSlots, EntryIsOne, SpellsEntry}
 use Rattle.spec_record.proofs.TestLemmas.{value_passed, passed_value, some_ok}
-use Rattle.spec_record.proofs.ReadEntry.{read_spelled}
+use Rattle.spec_record.proofs.ReadEntry.{own_blocks, read_spelled}
 use Rattle.spec_record.proofs.SpelledEntry.{spelled_read, entry_block, length-entry_blocks, header_of_entry}
 
 pub entry_is_read : EntryIsRead
 unfolding entry_or_fault
-entry_is_read blocks number meta e b few = (
-  (λ is.
-      let passed = value_passed (entry_tests blocks number meta) (entry_in blocks) e (some_ok (entry_or_fault blocks number meta) e is) in
-      subst (SpellsEntry blocks number meta) passed.1 (read_spelled blocks number meta b few passed.0)),
-  λ spells.
+entry_is_read blocks number meta e few = (
+  (λ spells.
       let read = spelled_read blocks number meta e few spells in
-      ap result_ok (passed_value (entry_tests blocks number meta) (entry_in blocks) read.0) ∙ ap (λ (v : Entry). Some v) read.1,
+      ap result_ok (passed_value (entry_tests blocks number meta) (entry_in blocks) read.0) ∙ ap (λ (v : Entry). Some v) read.1),
+  λ is own.
+      let passed = value_passed (entry_tests blocks number meta) (entry_in blocks) e (some_ok (entry_or_fault blocks number meta) e is) in
+      let all : All IsBlock (take (entry_slots (entry_in blocks)) blocks) = subst (λ (x : Entry). All IsBlock (take (entry_slots x) blocks)) (sym passed.1) own in
+      subst (SpellsEntry blocks number meta) passed.1 (read_spelled blocks number meta (own_blocks blocks number meta passed.0 all) few passed.0),
 )
 
 pub entry_takes_slots : EntryTakesSlots

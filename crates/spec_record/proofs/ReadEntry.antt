@@ -54,6 +54,15 @@ pub take_first : (n : ℕ) (blocks : List (List ℕ)) → 1 ≤ length blocks �
 take_first n [] some = absurd (omega (arith, some))
 take_first n (block ∷ blocks) some = rw add-one refl
 
+-- the blocks of the entry that a header asks for are blocks
+abbrev pub OwnBlocks : List (List ℕ) → Type 0
+OwnBlocks blocks = All IsBlock (take (field (block_in blocks 0) 32 8 + 2) blocks)
+
+own_block : (blocks : List (List ℕ)) (i : ℕ) → OwnBlocks blocks → field (block_in blocks 0) 32 8 + 2 ≤ length blocks → i < field (block_in blocks 0) 32 8 + 2 → IsBlock (block_in blocks i)
+own_block blocks i own there lt =
+    let n : ℕ = field (block_in blocks 0) 32 8 + 2 in
+    subst IsBlock (get_or-take n blocks i [] lt) (own i [] (omega (arith, lt, there, length-take n blocks)))
+
 -- what the tests say of a used place
 record Used (header : List ℕ) (meta place : ℕ) (payload : List ℕ) : Type 0 where
   pub rises : (eqb place 0 || ltb (target_in header (place - 1)) (target_in header place)) ≡ true
@@ -119,12 +128,12 @@ payload_at n blocks i c lt =
     get_or-take n (drop 1 blocks) i c lt ∙ get_or-drop 1 blocks i c ∙ ap (λ (k : ℕ). get_or blocks k c) (omega arith)
 
 -- a payload is restored as its place asks for
-restores_at : (blocks : List (List ℕ)) (number meta i : ℕ) → All IsBlock blocks → meta ≤ 679 → Read blocks number meta → i < field (block_in blocks 0) 32 8 → Restores (flag_in (block_in blocks 0) i) (get_or (take (field (block_in blocks 0) 32 8) (drop 1 blocks)) i [])
+restores_at : (blocks : List (List ℕ)) (number meta i : ℕ) → OwnBlocks blocks → meta ≤ 679 → Read blocks number meta → i < field (block_in blocks 0) 32 8 → Restores (flag_in (block_in blocks 0) i) (get_or (take (field (block_in blocks 0) 32 8) (drop 1 blocks)) i [])
 restores_at blocks number meta i b few r lt =
     let h = block_in blocks 0 in
     let u = read_used blocks number meta i few r lt in
     subst (λ (block : List ℕ). Restores (flag_in h i) block) (sym (payload_at (field h 32 8) blocks i [] lt))
-    (stored-restored (flag_in h i) (block_in blocks (i + 1)) (b (i + 1) [] (omega (arith, r.there, lt))) u.escape)
+    (stored-restored (flag_in h i) (block_in blocks (i + 1)) (own_block blocks (i + 1) b r.there (omega (arith, lt))) u.escape)
 
 -- what an unused place holds
 unused_zero : (blocks : List (List ℕ)) (number meta i : ℕ) → Read blocks number meta → field (block_in blocks 0) 32 8 ≤ i → i < header_places → (target_in (block_in blocks 0) i ≡ 0) × (flag_in (block_in blocks 0) i ≡ 0)
@@ -149,7 +158,7 @@ read_target blocks number meta i r lt =
     let fst : ℕ × List ℕ → ℕ = λ t. t.0 in
     get_or-map fst (targets_in h 0 bs) i none 0 (omega (arith, length-targets_in h 0 bs)) ∙ ap fst (target_from h bs i none [] inside)
 
-read_flag : (blocks : List (List ℕ)) (number meta i : ℕ) → All IsBlock blocks → meta ≤ 679 → Read blocks number meta → i < field (block_in blocks 0) 32 8 → get_or (map (λ t. flag_of t.1) (entry_in blocks).targets) i 0 ≡ flag_in (block_in blocks 0) i
+read_flag : (blocks : List (List ℕ)) (number meta i : ℕ) → OwnBlocks blocks → meta ≤ 679 → Read blocks number meta → i < field (block_in blocks 0) 32 8 → get_or (map (λ t. flag_of t.1) (entry_in blocks).targets) i 0 ≡ flag_in (block_in blocks 0) i
 read_flag blocks number meta i b few r lt =
     let h = block_in blocks 0 in
     let n : ℕ = field h 32 8 in
@@ -159,7 +168,7 @@ read_flag blocks number meta i b few r lt =
     let flag : ℕ × List ℕ → ℕ = λ t. flag_of t.1 in
     get_or-map flag (targets_in h 0 bs) i none 0 (omega (arith, length-targets_in h 0 bs)) ∙ ap flag (target_from h bs i none [] inside) ∙ (restores_at blocks number meta i b few r lt).flag_is
 
-read_stored : (blocks : List (List ℕ)) (number meta : ℕ) → All IsBlock blocks → meta ≤ 679 → Read blocks number meta → map (λ t. stored t.1) (entry_in blocks).targets ≡ take (field (block_in blocks 0) 32 8) (drop 1 blocks)
+read_stored : (blocks : List (List ℕ)) (number meta : ℕ) → OwnBlocks blocks → meta ≤ 679 → Read blocks number meta → map (λ t. stored t.1) (entry_in blocks).targets ≡ take (field (block_in blocks 0) 32 8) (drop 1 blocks)
 read_stored blocks number meta b few r =
     let h = block_in blocks 0 in
     let n : ℕ = field h 32 8 in
@@ -178,7 +187,7 @@ read_stored blocks number meta b few r =
     ∙ restored_so.stored_is
     ∙ payload_at n blocks i [] i_lt ∙ get_or_default blocks (i + 1) [] d (omega (arith, r.there)) ∙ sym (payload_at n blocks i d i_lt))
 
-read_header : (blocks : List (List ℕ)) (number meta : ℕ) → All IsBlock blocks → meta ≤ 679 → Read blocks number meta → block_in blocks 0 ≡ header_bytes (entry_in blocks)
+read_header : (blocks : List (List ℕ)) (number meta : ℕ) → OwnBlocks blocks → meta ≤ 679 → Read blocks number meta → block_in blocks 0 ≡ header_bytes (entry_in blocks)
 read_header blocks number meta b few r =
     let h = block_in blocks 0 in
     let n : ℕ = field h 32 8 in
@@ -190,7 +199,7 @@ read_header blocks number meta b few r =
     let n_few : n ≤ header_places = omega (arith, places_are, r.count.to_high, few) in
     let fst_len : length (map fst ts) ≡ n = length-map ts fst ∙ ts_len in
     let flag_len : length (map flag ts) ≡ n = length-map ts flag ∙ ts_len in
-    header_spelled h (field h 8 8) (length ts) (map fst ts) (map flag ts) (b 0 [] (omega (arith, r.there)))
+    header_spelled h (field h 8 8) (length ts) (map fst ts) (map flag ts) (own_block blocks 0 b r.there (omega arith))
     (record { targets_few = omega (arith, fst_len); flags_few = omega (arith, flag_len) })
     (record {
       magic = r.magic;
@@ -210,7 +219,7 @@ read_header blocks number meta b few r =
     })
 
 -- the header and the payloads are the first blocks
-read_front : (blocks : List (List ℕ)) (number meta : ℕ) → All IsBlock blocks → meta ≤ 679 → Read blocks number meta → take (field (block_in blocks 0) 32 8 + 1) blocks ≡ entry_front (entry_in blocks)
+read_front : (blocks : List (List ℕ)) (number meta : ℕ) → OwnBlocks blocks → meta ≤ 679 → Read blocks number meta → take (field (block_in blocks 0) 32 8 + 1) blocks ≡ entry_front (entry_in blocks)
 read_front blocks number meta b few r =
     let h = block_in blocks 0 in
     let n : ℕ = field h 32 8 in
@@ -233,15 +242,15 @@ commit_spelled block number sum b e sum_is =
     let rows : fields 0 (8 ∷ 8 ∷ 8 ∷ 8 ∷ 4 ∷ 8156 ∷ []) block ≡ entry_magic ∷ number ∷ 2 ∷ 0 ∷ sum ∷ 0 ∷ [] = rw (magic, number_is, kind, reserved, sum_is, rest) refl in
     spelled-all (8 ∷ 8 ∷ 8 ∷ 8 ∷ 4 ∷ 8156 ∷ []) block b.bytes_fit b.length_is ∙ ap (spelled (8 ∷ 8 ∷ 8 ∷ 8 ∷ 4 ∷ 8156 ∷ [])) rows
 
-read_commit : (blocks : List (List ℕ)) (number meta : ℕ) → All IsBlock blocks → meta ≤ 679 → Read blocks number meta → block_in blocks (field (block_in blocks 0) 32 8 + 1) ≡ commit_bytes (entry_in blocks)
+read_commit : (blocks : List (List ℕ)) (number meta : ℕ) → OwnBlocks blocks → meta ≤ 679 → Read blocks number meta → block_in blocks (field (block_in blocks 0) 32 8 + 1) ≡ commit_bytes (entry_in blocks)
 read_commit blocks number meta b few r =
     let h = block_in blocks 0 in
     let n : ℕ = field h 32 8 in
     let sum_is : field (block_in blocks (n + 1)) 32 4 ≡ crc32 (concat (entry_front (entry_in blocks))) = r.sum ∙ ap (λ (front : List (List ℕ)). crc32 (concat front)) (read_front blocks number meta b few r) in
     let number_is : is_commit (block_in blocks (n + 1)) (field h 8 8) ≡ true = subst (λ (k : ℕ). is_commit (block_in blocks (n + 1)) k ≡ true) (sym r.number_is) r.commit in
-    commit_spelled (block_in blocks (n + 1)) (field h 8 8) (crc32 (concat (entry_front (entry_in blocks)))) (b (n + 1) [] (omega (arith, r.there))) number_is sum_is
+    commit_spelled (block_in blocks (n + 1)) (field h 8 8) (crc32 (concat (entry_front (entry_in blocks)))) (own_block blocks (n + 1) b r.there (omega arith)) number_is sum_is
 
-read_lawful : (blocks : List (List ℕ)) (number meta : ℕ) → All IsBlock blocks → meta ≤ 679 → Read blocks number meta → IsEntry meta (entry_in blocks)
+read_lawful : (blocks : List (List ℕ)) (number meta : ℕ) → OwnBlocks blocks → meta ≤ 679 → Read blocks number meta → IsEntry meta (entry_in blocks)
 read_lawful blocks number meta b few r =
     let h = block_in blocks 0 in
     let n : ℕ = field h 32 8 in
@@ -273,7 +282,15 @@ read_lawful blocks number meta b few r =
           subst (λ (t : ℕ × List ℕ). IsBlock t.1) (sym (target_from h bs k d [] (omega (arith, bs_len)))) (restores_at blocks number meta k b few r k_lt).is_block;
     }
 
-pub read_spelled : (blocks : List (List ℕ)) (number meta : ℕ) → All IsBlock blocks → meta ≤ 679 → Passed (entry_tests blocks number meta) → SpellsEntry blocks number meta (entry_in blocks)
+-- as many blocks as what is read takes
+pub own_blocks : (blocks : List (List ℕ)) (number meta : ℕ) → Passed (entry_tests blocks number meta) → All IsBlock (take (entry_slots (entry_in blocks)) blocks) → OwnBlocks blocks
+own_blocks blocks number meta t all =
+    let n : ℕ = field (block_in blocks 0) 32 8 in
+    let there = (read_from blocks number meta t).there in
+    let count : length (entry_in blocks).targets ≡ n = length-targets_in (block_in blocks 0) 0 (take n (drop 1 blocks)) ∙ length-payloads n blocks there in
+    subst (λ (k : ℕ). All IsBlock (take (k + 2) blocks)) count all
+
+pub read_spelled : (blocks : List (List ℕ)) (number meta : ℕ) → OwnBlocks blocks → meta ≤ 679 → Passed (entry_tests blocks number meta) → SpellsEntry blocks number meta (entry_in blocks)
 read_spelled blocks number meta b few t =
     let r = read_from blocks number meta t in
     let h = block_in blocks 0 in

@@ -95,12 +95,14 @@ pub record SpellsEntry (blocks : List (List ℕ)) (number meta : ℕ) (e : Entry
   pub lawful : IsEntry meta e
   pub blocks_are : take (entry_slots e) blocks ≡ entry_blocks e
 
--- an entry is read from blocks that begin with its spelling, and from no others; a header has 679
--- places
+-- an entry is read from what begins with its spelling, whatever lies behind; and where its own
+-- blocks are blocks, from nothing else; a header has 679 places
 abbrev pub EntryIsRead : Type 0
 EntryIsRead =
-    (blocks : List (List ℕ)) (number meta : ℕ) (e : Entry) → All IsBlock blocks → meta ≤ 679
-    → (entry_of blocks number meta ≡ Some e) ↔ SpellsEntry blocks number meta e
+    (blocks : List (List ℕ)) (number meta : ℕ) (e : Entry) → meta ≤ 679
+    → (SpellsEntry blocks number meta e → entry_of blocks number meta ≡ Some e)
+    × (entry_of blocks number meta ≡ Some e → All IsBlock (take (entry_slots e) blocks)
+    → SpellsEntry blocks number meta e)
 
 -- an entry takes whole blocks, as many as slots
 pub record TakesSlots (e : Entry) : Type 0 where
