@@ -2,6 +2,7 @@
 
 ghost use Rattle.std.specs.Prelude.{◌≡◌, ◌↔◌, ◌≤◌, IsTrue};
 ghost use Rattle.std.specs.Option.{option_to_list};
+ghost use Rattle.spec_faults.specs.Faults.{Rose};
 ghost use Rattle.spec_core.specs.Synced as Y;
 
 use bv_model::History;
@@ -17,11 +18,11 @@ fn fault_of(reply: Reply) -> Option<u64>
     }
 }
 
-/// Whether a count of faults has risen, or stands at its end, and is at most `last`.
+/// Whether a count of faults rose from `before` to `now`, which is at most `last`.
 fn rose_within(before: u64, now: u64, last: u64) -> bool
-    ensures { IsTrue result ↔ Y.Rose before now × (now ≤ last) }
+    ensures { IsTrue result ↔ Rose before now × (now ≤ last) }
 {
-    now <= last && (before < now || (now == u64::MAX && now == before))
+    now <= last && before.saturating_add(1) <= now
 }
 
 /// Whether the faults of a history came from a device whose count of faults rose from `first` to

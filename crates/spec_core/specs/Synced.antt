@@ -1,6 +1,7 @@
 -- Which changes are durable, and which may be, after so many calls of the device; and where faults
 -- come from (this project's profile).
 use Rattle.std.specs.Prelude.{◌≡◌, ℕ, Bool, true, false, ◌-◌, ◌^◌, ◌<◌, ◌≤◌, ◌&&◌, ◌⊎◌, List, [], ◌∷◌, ◌++◌, length, map, filter, nat_le, IsTrue}
+use Rattle.spec_faults.specs.Faults.{Rose}
 use Rattle.spec_core.specs.History.{History, setting_of, opening_map, first_state, log_of, FromEachToNext}
 use Rattle.spec_core.specs.State.{State}
 use Rattle.spec_core.specs.Step.{after}
@@ -66,11 +67,7 @@ abbrev pub faults_of : List CoreEvent → List ℕ
 faults_of [] = []
 faults_of (e ∷ events) = fault_of e.reply ++ faults_of events
 
--- a count of faults has risen, or stands at its end
-abbrev pub Rose : ℕ → ℕ → Type 0
-Rose before now = (before < now) ⊎ ((now ≡ 2 ^ 64 - 1) × (now ≡ before))
-
--- each number is above the one before, from the first on, and at most the last
+-- the count rose to each number from the one before, from the first on, and each is at most the last
 abbrev pub RiseWithin : ℕ → ℕ → List ℕ → Type 0
 RiseWithin first last [] = Unit {0}
 RiseWithin first last (f ∷ faults) = Rose first f × (f ≤ last) × RiseWithin f last faults
