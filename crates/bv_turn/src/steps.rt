@@ -6,9 +6,9 @@ ghost use Rattle.bv_turn.specs.Rule.{Closed};
 ghost use Rattle.bv_turn.specs.Tokens.{IsOf, IsIdle, IsOut, KnowsEntries, KnowsBasis, MayPass, Gains, HasShare, AreFresh, seats_of, first_of, session_of, list_of, basis_of, held_entries};
 ghost use Rattle.bv_turn.specs.Views.{fresh};
 
+use crate::bells;
 use crate::keeps::Keeps;
 use crate::rule::{About, Draw, Look, Merge, Note, Pass, Peel};
-use crate::bells;
 use crate::turn::{Held, Share, Turn};
 use crate::view::View;
 use atomic_table::{Refused, Seat, Table};

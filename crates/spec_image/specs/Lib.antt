@@ -12,6 +12,7 @@ pub mod WellFormedParts
 pub mod Stored
 pub mod Volume
 pub mod Chance
+pub mod Leaves
 pub mod Torn
 pub mod SampleJournals
 pub mod SampleNodes

@@ -16,6 +16,7 @@ ghost use Rattle.spec_image.specs.After.{after};
 ghost use Rattle.spec_image.specs.Blobs.{value_of, blob_map};
 ghost use Rattle.spec_image.specs.Chain.{BlobRecord};
 ghost use Rattle.spec_image.specs.Journal.{journal_of};
+ghost use Rattle.spec_image.specs.Leaves.{LeavesWithin};
 ghost use Rattle.spec_image.specs.Metadata.{Metadata, metadata_in};
 ghost use Rattle.spec_image.specs.Stored.{bytes_in, AllVerify};
 ghost use Rattle.spec_image.specs.Volume.{HasGeometry, metadata_of, blobs, blob_in, bytes_of, IsWhole, IsSound};
@@ -24,7 +25,7 @@ ghost use Rattle.spec_image.specs.WellFormedParts.{WellFormed};
 ghost use Rattle.spec_core.specs.History.{History, setting_of, opening_map, first_state, log_of};
 ghost use Rattle.spec_core.specs.Room.{blob_need, taken};
 ghost use Rattle.spec_crash.specs.Crash.{HoldsWhole, CrashPrefix};
-ghost use Rattle.spec_laws.specs.Keeps.{KeepsBlobs, KeepsWithin};
+ghost use Rattle.spec_laws.specs.Keeps.{KeepsBlobs};
 
 /// Images of one geometry and one length, whose info blocks are both read or both not, have the
 /// same metadata and the same map where the replay leaves the same metadata blocks.
@@ -108,6 +109,7 @@ pub fn a_mount_without_an_event_keeps_its_blobs()
     ensures first { (base : Blocks) (held : List (Digest × Blob)) → HoldsWhole base held
         → KeepsBlobs base [] held }
     ensures more { (base : Blocks) (events more : List Event) (held : List (Digest × Blob))
-        → KeepsBlobs base events held → KeepsWithin base events more held
+        → KeepsBlobs base events held
+        → LeavesWithin base events more (λ j. HoldsWhole j held)
         → KeepsBlobs base (events ++ more) held }
 {}
