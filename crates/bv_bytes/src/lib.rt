@@ -5,8 +5,6 @@ mod crc;
 mod ensure;
 mod field;
 mod fields;
-#[cfg(test)]
-mod tests;
 mod zeros;
 
 pub use crc::{crc_more, crc32};

@@ -13,8 +13,6 @@ mod laws;
 mod rule;
 mod search;
 mod tally;
-#[cfg(test)]
-mod tests;
 
 pub use boss::Boss;
 pub use claimed::Claimed;

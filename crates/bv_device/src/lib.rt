@@ -25,6 +25,3 @@ pub use lying::LyingDevice;
 pub use memory::MemDevice;
 pub use spec_disk::{Block, Event};
 pub use writing::{write_all, write_copies};
-
-#[cfg(test)]
-mod tests;

@@ -7,8 +7,6 @@ mod payload;
 mod place;
 mod read;
 mod row;
-#[cfg(test)]
-mod tests;
 mod write;
 
 pub use entry::Entry;

@@ -4,8 +4,6 @@
 mod fault;
 mod formatting;
 mod phases;
-#[cfg(test)]
-mod tests;
 
 pub use fault::FormatFault;
 pub use formatting::format;

@@ -11,8 +11,6 @@ mod reading;
 mod schedule;
 mod sink;
 mod source;
-#[cfg(test)]
-mod tests;
 mod trickle;
 
 pub use failed::Failed;

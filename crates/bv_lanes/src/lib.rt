@@ -14,6 +14,3 @@ mod words;
 
 pub use hashing::digests;
 pub use message::{Block, Message};
-
-#[cfg(test)]
-mod tests;

@@ -4,8 +4,6 @@
 mod counts;
 mod superblock;
 mod table;
-#[cfg(test)]
-mod tests;
 
 pub use counts::{WrongCount, check_counts};
 pub use spec_record::{FieldName, Geometry, Super, SuperFault};

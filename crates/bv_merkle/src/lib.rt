@@ -26,6 +26,3 @@ const WINDOW_LEN: usize = 65_536;
 
 /// The digests in a block of digests.
 const DIGESTS: u64 = 256;
-
-#[cfg(test)]
-mod tests;

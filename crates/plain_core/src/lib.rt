@@ -18,10 +18,3 @@ pub use legality::is_legal;
 pub use logged::{Logged, logged_of};
 pub use machine::{Machine, opening_of};
 pub use step::step_of;
-
-#[cfg(test)]
-mod ending_tests;
-#[cfg(test)]
-mod history_tests;
-#[cfg(test)]
-mod tests;

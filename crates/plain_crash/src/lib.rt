@@ -12,8 +12,3 @@ pub mod timing;
 pub use formatted::is_left_by_format;
 pub use holding::holds_prefix;
 pub use timing::is_timed;
-
-#[cfg(test)]
-mod tests;
-#[cfg(test)]
-mod timing_tests;

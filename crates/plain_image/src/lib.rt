@@ -29,10 +29,3 @@ pub use soundness::is_sound_from;
 pub use verifying::verifies;
 pub use well_formed::is_well_formed_with;
 pub use whole::is_whole_from;
-
-#[cfg(test)]
-mod chance_tests;
-#[cfg(test)]
-mod image_tests;
-#[cfg(test)]
-mod tests;

@@ -21,6 +21,3 @@ pub use one_event_more::{
     candidates_with_one_event_more, last_with_one_event_more, now_with_one_event_more,
     pending_with_one_event_more, reads_with_one_event_more, synced_with_one_event_more,
 };
-
-#[cfg(test)]
-mod tests;

@@ -2,7 +2,7 @@
 
 ghost use Rattle.std.specs.Prelude.{◌<◌};
 
-use crate::{
+use bv_merkle::{
     Builder, Digest, Tree, block_digest, blocks_needed, blocks_needed_of, levels, root,
     tree_blocks, tree_blocks_of, windows,
 };

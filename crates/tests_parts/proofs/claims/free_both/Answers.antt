@@ -1,5 +1,5 @@
 use Rattle.bv_claims.proofs.CallerLemmas.{part_left, part_freed}
-use Rattle.bv_claims.proofs.tests.free_both.Goals as goal
+use Rattle.tests_parts.proofs.claims.free_both.Goals as goal
 
 pub free-requires-clause-owned : goal.free-requires-clause-owned
 free-requires-clause-owned c = part_left c.args.first.now c.args.second.now _ c.requires.owned

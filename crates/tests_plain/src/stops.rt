@@ -1,11 +1,11 @@
 //! Images of volumes that `format` makes, with a blob that is put in by hand, against histories
 //! whose answers are worked out by hand. The root of the blob without bytes is hashlib's.
 
-use crate::{holds_prefix, is_left_by_format};
 use bv_device::{Block, Device, MemDevice};
 use bv_format::format;
 use bv_model::History;
 use plain_core::is_legal;
+use plain_crash::{holds_prefix, is_left_by_format};
 use spec_core::{Act, CoreEvent, Reply, Setting, Who};
 use spec_record::Geometry;
 use spec_tree::Digest;

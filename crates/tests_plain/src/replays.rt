@@ -1,6 +1,6 @@
 //! The plain replay on a ring of fifteen slots. The checksums were computed by zlib.
 
-use crate::replay_of;
+use plain_image::replay_of;
 use spec_disk::Block;
 use spec_record::Info;
 use std::test::Fail;

@@ -1,6 +1,6 @@
 use Rattle.std.proofs.Common.{◌≡◌, ◌+◌, length}
 use Rattle.bv_merkle.specs.Builder.{built, size_of}
-use Rattle.bv_merkle.proofs.tests.tree_by.Given as goal
+use Rattle.tests_parts.proofs.trees.tree_by.Given as goal
 
 abbrev pub invariant-loop-rest : goal.invariant-loop-rest
 invariant-loop-rest l = record {

@@ -2,7 +2,7 @@
 
 ghost use Rattle.std.specs.Prelude.{◌<◌};
 
-use crate::{Block, Message, digests};
+use bv_lanes::{Block, Message, digests};
 
 // By python's hashlib: the first eight bytes of the digest of the message of each lane.
 const HEADS: [u64; 8] = [

@@ -1,7 +1,7 @@
 //! Histories, and what the calls that go over them say, against numbers worked out by hand.
 
-use crate::{is_caused, is_legal, logged_of};
 use bv_model::{History, logged_by, room_of, synced_by};
+use plain_core::{is_caused, is_legal, logged_of};
 use spec_core::{Act, CoreEvent, MapChange, Reply, Setting, Who};
 use spec_tree::{Blob, Digest};
 use std::alloc::{AllocError, Global};

@@ -1,10 +1,10 @@
 //! Entries and info blocks byte by byte. The bytes are the tables', written out by hand; zlib gave
 //! the checksums.
-use crate::{
+use bv_bytes::{Block, crc_more, crc32};
+use bv_entry::{
     Entry, EntryFault, Info, InfoFault, ReadEntryFault, read_entry, read_info, write_entry,
     write_info,
 };
-use bv_bytes::{Block, crc_more, crc32};
 use std::alloc::Global;
 use std::test::Fail;
 
@@ -43,22 +43,6 @@ fn escaped() -> [Block; 3] {
     commit[16] = 2;
     commit[32..36].copy_from_slice(&[0x36, 0xfb, 0xf3, 0xb4]);
     [header, block([0; 8], 7), commit]
-}
-
-/// The blocks of entry 9 with payloads for metadata blocks 1 and 4, the second with the magic.
-fn two_payloads() -> [Block; 4] {
-    let mut header = block(MAGIC, 0);
-    header[8] = 9;
-    header[16] = 1;
-    header[32] = 2;
-    header[40] = 1;
-    header[48] = 4;
-    header[5476] = 1;
-    let mut commit = block(MAGIC, 0);
-    commit[8] = 9;
-    commit[16] = 2;
-    commit[32..36].copy_from_slice(&[0x72, 0x41, 0xe0, 0x34]);
-    [header, [5; 8192], block([0; 8], 7), commit]
 }
 
 #[test]
@@ -144,98 +128,6 @@ fn each_row_of_an_entry_has_its_fault_from_its_first_byte_to_its_last(rt: HostRu
             );
         }
     }
-}
-
-#[test]
-fn an_entry_is_read_from_its_own_blocks_in_its_own_volume(rt: HostRuntime) {
-    let unescaped = Some(EntryFault::Target { index: 0 });
-    let rows = [
-        ("whole", (3, 32, 0x72), 9, 5, None),
-        (
-            "a target of M",
-            (3, 32, 0x72),
-            9,
-            4,
-            Some(EntryFault::Target { index: 1 }),
-        ),
-        (
-            "more payloads than M",
-            (3, 32, 0x72),
-            9,
-            1,
-            Some(EntryFault::Count { value: 2 }),
-        ),
-        (
-            "equal targets",
-            (0, 48, 1),
-            9,
-            5,
-            Some(EntryFault::Target { index: 1 }),
-        ),
-        (
-            "targets that fall",
-            (0, 48, 0),
-            9,
-            5,
-            Some(EntryFault::Target { index: 1 }),
-        ),
-        (
-            "another number",
-            (3, 32, 0x72),
-            10,
-            5,
-            Some(EntryFault::Number {
-                wanted: 10,
-                found: 9,
-            }),
-        ),
-        (
-            "number 0",
-            (0, 8, 0),
-            0,
-            5,
-            Some(EntryFault::Number {
-                wanted: 0,
-                found: 0,
-            }),
-        ),
-        ("a flag over no zeros", (0, 5472, 1), 9, 5, unescaped),
-        (
-            "a commit's number",
-            (3, 8, 8),
-            9,
-            5,
-            Some(EntryFault::Commit),
-        ),
-    ];
-    for (name, (block, offset, value), number, meta, row) in rows {
-        let mut blocks = two_payloads();
-        if block < 4 && offset < 8192 {
-            blocks[block][offset] = value;
-        }
-        let found = fault_in(rt.alloc(), &blocks, number, meta);
-        assert_eq!(rt; found, row.map(ReadEntryFault::Entry), "{name}");
-    }
-    let [header, first, second, commit] = two_payloads();
-    let count = Some(ReadEntryFault::Entry(EntryFault::Count { value: 2 }));
-    assert_eq!(rt;
-        fault_in(rt.alloc(), &[header, first, second], 9, 5),
-        count,
-        "no commit"
-    );
-    let more = [header, first, second, commit, [1; 8192]];
-    assert_eq!(rt;
-        fault_in(rt.alloc(), &more, 9, 5),
-        None,
-        "a block behind the commit"
-    );
-    let magic = [header, block(MAGIC, 5), second, commit];
-    let row = unescaped.map(ReadEntryFault::Entry);
-    assert_eq!(rt;
-        fault_in(rt.alloc(), &magic, 9, 5),
-        row,
-        "a payload with the magic"
-    );
 }
 
 /// The info block of start 14 and entry 7.

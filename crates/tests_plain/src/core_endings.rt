@@ -1,8 +1,8 @@
 //! Cores that a failure, the last number or an unmount brings to an end, against the table: the
 //! replies, and then the log, the map and the room, worked out by hand.
 
-use crate::Machine;
-use crate::tests::{A, B, BEGIN_A, BLOCK, C, Row, SMALL, goes_as_said};
+use crate::core_steps::{A, B, BEGIN_A, BLOCK, C, Row, SMALL, goes_as_said};
+use plain_core::Machine;
 use spec_core::{Act, MapChange, Reply};
 use spec_tree::{Blob, Digest};
 use std::alloc::Global;

@@ -1,9 +1,9 @@
 //! Runs of `format` on devices in memory that held another volume, stopped and failed at every
 //! call. The bytes of the new volume are the tables', written out by hand; the checksum is zlib's.
 
-use crate::{FormatFault, format};
 use bv_device::{Block, CallKind, Device, Failed, MemDevice};
-use bv_layout::{FieldName, Geometry, SuperFault, read_super};
+use bv_format::{FormatFault, format};
+use bv_layout::{Geometry, SuperFault, read_super};
 use std::alloc::Global;
 use std::test::Fail;
 
@@ -220,57 +220,5 @@ fn a_call_that_fails_is_counted_and_leaves_one_of_the_cases(rt: HostRuntime) -> 
     assert_eq!(rt; count(Left::OldHead), 8);
     assert_eq!(rt; count(Left::NoHead), 168);
     assert_eq!(rt; count(Left::NewVolume), 32);
-    Ok(())
-}
-
-#[test]
-fn a_refused_device_is_not_touched(rt: HostRuntime) -> Result<(), Fail> {
-    let alloc = rt.alloc();
-    let counts = |field, value| Err(FormatFault::Counts { field, value });
-    let short = |wanted, has| Err(FormatFault::ShortDevice { wanted, has });
-    let rows = [
-        (geometry(1, 64, 128, 4), 83, counts(FieldName::Journal, 4)),
-        (geometry(1, 64, 128, 5), 83, counts(FieldName::Journal, 5)),
-        (geometry(1, 64, 128, 6), 73, Ok(())),
-        (geometry(1, 64, 128, 6), 72, short(73, 72)),
-        (
-            geometry(1, 1_048_577, 128, 64),
-            83,
-            counts(FieldName::Blocks, 1_048_577),
-        ),
-        (
-            geometry(2, 4_194_305, 128, 128),
-            83,
-            counts(FieldName::Blocks, 4_194_305),
-        ),
-        (geometry(1, 1, 128, 16), 83, counts(FieldName::Blocks, 1)),
-        (geometry(1, 64, 0, 16), 83, counts(FieldName::Nodes, 0)),
-        (geometry(1, 64, 192, 16), 83, counts(FieldName::Nodes, 192)),
-        (
-            geometry(2, 64, 65_664, 600),
-            83,
-            counts(FieldName::Nodes, 65_664),
-        ),
-        (
-            geometry(2, 64, 128, 65_537),
-            83,
-            counts(FieldName::Journal, 65_537),
-        ),
-        (
-            geometry(2, 4_194_304, 65_536, 1024),
-            83,
-            short(4_195_905, 83),
-        ),
-        (wanted(1), 0, short(83, 0)),
-        (wanted(2), 82, short(83, 82)),
-        (wanted(1), 83, Ok(())),
-        (wanted(2), 84, Ok(())),
-    ];
-    for (geometry, blocks, answer) in rows {
-        let mut dev = MemDevice::new(alloc, blocks)?;
-        assert!(rt; geometry.version == 1 || geometry.version == 2);
-        assert_eq!(rt; format(&mut dev, geometry), answer, "{geometry:?}");
-        assert_eq!(rt; dev.trace_len() == 0, answer.is_err(), "{geometry:?}");
-    }
     Ok(())
 }

@@ -4,7 +4,7 @@ ghost use Rattle.std.specs.Prelude.{◌≡◌, ◌+◌, ◌^◌, ◌<◌, ◌≤
 ghost use Rattle.bv_claims.specs.Blocks.{IsPartOf};
 ghost use Rattle.bv_claims.specs.Tokens.{boss_owned, IsBossOf, IsGrantOf, IsClaimedOf};
 
-use crate::{Boss, Claimed, Claims, Grant};
+use bv_claims::{Boss, Claimed, Claims, Grant};
 use std::alloc::Global;
 use std::process::Abort;
 use std::test::Fail;

@@ -1,8 +1,8 @@
 //! A put, a settle and a sync with the calls of the device that they make, and with one thing
 //! changed.
 
-use crate::is_timed;
 use bv_model::History;
+use plain_crash::is_timed;
 use spec_core::{Act, CoreEvent, Reply, Setting, Who};
 use spec_disk::Event;
 use spec_tree::Digest;

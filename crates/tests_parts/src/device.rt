@@ -1,6 +1,6 @@
 //! Runs of the devices in memory with ample memory, and what stops of them leave.
 
-use crate::{Block, CallKind, Device, Event, Failed, Lie, LyingDevice, MemDevice};
+use bv_device::{Block, CallKind, Device, Event, Failed, Lie, LyingDevice, MemDevice};
 use std::alloc::Global;
 use std::test::Fail;
 

@@ -3,8 +3,8 @@
 //! A volume of version 2 has 64 data blocks, a journal of 16 blocks, and one or two blocks of nodes.
 //! Its two blobs take such data blocks that the bitmap begins as a journal header does.
 
-use crate::{blobs_from, bytes_from, is_sound_from, is_whole_from};
 use bv_merkle::block_digest;
+use plain_image::{blobs_from, bytes_from, is_sound_from, is_whole_from};
 use spec_disk::Block;
 use spec_tree::{Blob, Digest};
 use std::alloc::{AllocError, Global};

@@ -1,5 +1,5 @@
 use Rattle.bv_claims.proofs.CallerLemmas.{taken_is_part, part-append}
-use Rattle.bv_claims.proofs.tests.take_both.Goals as goal
+use Rattle.tests_parts.proofs.claims.take_both.Goals as goal
 
 pub returns-clause-owned : goal.returns-clause-owned
 returns-clause-owned c =

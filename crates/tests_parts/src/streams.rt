@@ -1,7 +1,5 @@
 //! Runs of each call over streams in memory, whose bytes and failing calls are named.
-use crate::{
-    Failed, MemSink, MemSource, ReadAllFault, Sink, Source, Trickle, fill, give_all, read_all,
-};
+use bv_io::{Failed, MemSink, MemSource, ReadAllFault, Sink, Source, Trickle, give_all, read_all};
 use std::alloc::{AllocError, Global};
 use std::test::Fail;
 
@@ -70,30 +68,6 @@ fn read_all_gives_what_is_left_or_says_why_not(rt: HostRuntime) -> Result<(), Fa
 }
 
 #[test]
-fn one_byte_a_call_gives_the_same_bytes(rt: HostRuntime) -> Result<(), Fail> {
-    let alloc = rt.alloc();
-    let held = counted(alloc, 300)?;
-    let mut source = Trickle {
-        inner: MemSource::new(held.clone()?, Vec::new(alloc)),
-    };
-    let mut piece = [0; 4];
-    assert_eq!(rt; source.take(&mut piece), Ok(1));
-    assert_eq!(rt; fill(&mut source, &mut piece), Ok(4));
-    assert_eq!(rt; piece.as_slice(), &held[1..5]);
-    let rest = read_all(alloc, &mut source, 295).ok().ok_or("refused")?;
-    assert_eq!(rt; rest.as_slice(), &held[5..]);
-    let mut sink = Trickle {
-        inner: MemSink::new(Vec::new(alloc), alloc),
-    };
-    assert_eq!(rt; fill(&mut source, &mut piece), Ok(0));
-    assert_eq!(rt; sink.give(&held), Ok(1));
-    assert_eq!(rt; give_all(&mut sink, &held[1..]), Ok(()));
-    assert_eq!(rt; sink.inner.bytes(), held.as_slice());
-    assert_eq!(rt; sink.inner.short(), 0);
-    Ok(())
-}
-
-#[test]
 fn a_failed_write_leaves_a_prefix(rt: HostRuntime) -> Result<(), Fail> {
     let alloc = rt.alloc();
     // The call that fails (0: none), and how many bytes of three come before it, one a call.
@@ -108,17 +82,6 @@ fn a_failed_write_leaves_a_prefix(rt: HostRuntime) -> Result<(), Fail> {
             "at {fails}"
         );
         assert_eq!(rt; sink.inner.bytes(), &[7, 8, 9][..want], "at {fails}");
-    }
-    Ok(())
-}
-
-#[test]
-fn a_call_fails_where_its_number_is_named(rt: HostRuntime) -> Result<(), Fail> {
-    let alloc = rt.alloc();
-    let mut source = MemSource::new(counted(alloc, 3)?, vec![in alloc; 1, 3]?);
-    let mut piece = [0; 2];
-    for want in [Err(Failed), Ok(2), Err(Failed), Ok(1), Ok(0)] {
-        assert_eq!(rt; source.take(&mut piece), want);
     }
     Ok(())
 }

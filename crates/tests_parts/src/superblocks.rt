@@ -1,7 +1,7 @@
 //! A superblock byte by byte, and counts about their limits. The bytes are the table's, written out
 //! by hand.
-use crate::{FieldName, Geometry, Super, SuperFault, check_counts, read_super, write_super};
 use bv_bytes::Block;
+use bv_layout::{FieldName, Geometry, Super, SuperFault, read_super, write_super};
 
 /// The superblock of 64 data blocks, 128 nodes and 16 journal blocks with one blob, but its zeros.
 const FRONT: [u8; 88] = [
@@ -129,67 +129,5 @@ fn each_byte_of_a_superblock_has_its_row(rt: HostRuntime) {
             "byte {offset}"
         );
         bytes[offset] = whole;
-    }
-}
-
-#[test]
-fn the_first_count_out_of_its_limits_is_named(rt: HostRuntime) {
-    let rows = [
-        (geometry(1, 64, 128, 16), None),
-        (geometry(1, 1, 128, 16), Some((FieldName::Blocks, 1))),
-        (geometry(1, 2, 128, 16), None),
-        (geometry(1, 1_048_576, 128, 65_536), None),
-        (
-            geometry(1, 1_048_577, 128, 65_536),
-            Some((FieldName::Blocks, 1_048_577)),
-        ),
-        (geometry(2, 4_194_304, 128, 65_536), None),
-        (
-            geometry(2, 4_194_305, 128, 65_536),
-            Some((FieldName::Blocks, 4_194_305)),
-        ),
-        (geometry(1, 64, 0, 16), Some((FieldName::Nodes, 0))),
-        (geometry(1, 64, 192, 16), Some((FieldName::Nodes, 192))),
-        (geometry(1, 64, 32_768, 261), None),
-        (
-            geometry(1, 64, 32_768, 260),
-            Some((FieldName::Journal, 260)),
-        ),
-        (
-            geometry(1, 64, 32_896, 1024),
-            Some((FieldName::Nodes, 32_896)),
-        ),
-        (geometry(2, 64, 65_536, 1024), None),
-        (
-            geometry(2, 64, 65_664, 1024),
-            Some((FieldName::Nodes, 65_664)),
-        ),
-        (geometry(1, 64, 128, 4), Some((FieldName::Journal, 4))),
-        (geometry(1, 64, 128, 6), None),
-        (geometry(1, 64, 128, 5), Some((FieldName::Journal, 5))),
-        (
-            geometry(1, 64, 128, 65_537),
-            Some((FieldName::Journal, 65_537)),
-        ),
-        (geometry(1, 0, 0, 0), Some((FieldName::Blocks, 0))),
-        (
-            geometry(2, u64::MAX, u64::MAX, u64::MAX),
-            Some((FieldName::Blocks, u64::MAX)),
-        ),
-        (
-            geometry(2, 64, u64::MAX, u64::MAX),
-            Some((FieldName::Nodes, u64::MAX)),
-        ),
-        (
-            geometry(2, 64, 128, u64::MAX),
-            Some((FieldName::Journal, u64::MAX)),
-        ),
-    ];
-    for (geometry, wrong) in rows {
-        assert!(rt; geometry.version == 1 || geometry.version == 2);
-        let found = check_counts(&geometry)
-            .err()
-            .map(|count| (count.field, count.value));
-        assert_eq!(rt; found, wrong, "{geometry:?}");
     }
 }

@@ -1,7 +1,6 @@
 //! The core in memory, against replies worked out by hand from the tables.
 
-use crate::{Machine, step_of};
-use bv_model::worst_nodes;
+use plain_core::{Machine, step_of};
 use spec_core::{Act, CoreEvent, Reply, Setting, Who};
 use spec_tree::Digest;
 use std::process::Abort;
@@ -267,13 +266,4 @@ fn each_event_is_a_step_exactly_where_the_table_has_its_row(rt: HostRuntime) -> 
     goes_as_said(&rt, &mut core, "ends", &ENDS)?;
     assert_eq!(rt; core.room(), 14);
     Ok(())
-}
-
-#[test]
-fn the_most_nodes_of_a_blob_go_by_its_version(rt: HostRuntime) {
-    // blocks of data, and with those of the tree: 1, 6 + 1, 7 + 1, 257 + 3 and 257 + 2
-    let rows = [(1, 1, 1), (1, 6, 2), (1, 7, 3), (1, 257, 45), (2, 257, 44)];
-    for (version, blocks, nodes) in rows {
-        assert_eq!(rt; worst_nodes(version, blocks * BLOCK), nodes, "{blocks}");
-    }
 }
