@@ -1,7 +1,7 @@
 pub mod CrashLemmas
 pub mod MemoryLemmas
 pub mod PlanLemmas
-pub mod ReadLemmas
+pub mod ReadsLemmas
 pub mod ScheduleLemmas
 pub mod SeenLemmas
 pub mod StopLemmas

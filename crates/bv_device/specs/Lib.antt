@@ -3,7 +3,7 @@ pub use Rattle.spec_faults.specs.Faults
 pub mod Told
 pub mod Plan
 pub mod Seen
-pub mod Reading
+pub mod Reads
 pub mod Crash
 pub mod Memory
 pub mod Stop

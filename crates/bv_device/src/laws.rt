@@ -1,13 +1,13 @@
 //! What plans say of stops: each law is the contract of a function that does nothing.
 
-ghost use Rattle.std.specs.Prelude.{◌≡◌, ℕ, ◌+◌, List, ◌++◌, length, Option, Some, None, Result, Ok, Err, IsOk, IsErr};
+ghost use Rattle.std.specs.Prelude.{◌≡◌, ℕ, ◌+◌, List, ◌++◌, length, Bool, IsTrue, Option, Some, None, Result};
 ghost use Rattle.spec_disk.specs.declared.event.Event.{Event};
 ghost use Rattle.spec_disk.specs.Disk.{Blocks};
 ghost use Rattle.bv_device.specs.declared.failed.Failed.{Failed};
 ghost use Rattle.bv_device.specs.Told.{Disk, disk_with};
 ghost use Rattle.bv_device.specs.Plan.{IsPlan, writes, with_events, Follows};
 ghost use Rattle.bv_device.specs.Seen.{Seen};
-ghost use Rattle.bv_device.specs.Reading.{OnlyReads, OnlyReadsWhere};
+ghost use Rattle.bv_device.specs.Reads.{OnlyReads, Reads};
 ghost use Rattle.bv_device.specs.Crash.{Ran, LeftByPlan};
 
 /// Whatever a stop of a run leaves, a stop of the plan that it follows leaves too, and not after
@@ -33,15 +33,17 @@ pub fn plans_are_joined()
         → writes at (a ++ b) ≡ writes at a ++ writes (at + length a) b }
 {}
 
-/// Runs that only read are joined: none, one after an Ok, and an error that is handed on.
+/// Runs that only read are joined: none, one after another, each with its fault or none, and what is
+/// seen in a first and a second run is seen in both. What is seen may be said more weakly.
 pub fn runs_that_only_read_are_joined()
-    ensures nothing { (s : Seen) → OnlyReads {T = Unit} {E = Failed} (Ok tt) s s }
-    ensures joined { (result : Result Unit Failed) (old mid new : Seen)
-        → OnlyReads {T = Unit} {E = Failed} (Ok tt) old mid → OnlyReads result mid new
-        → OnlyReads result old new }
-    ensures cut { (fault : Failed) (old new : Seen)
-        → OnlyReads {T = Unit} (Err fault) old new → OnlyReads {T = ℕ} (Err fault) old new }
-    ensures other_answers { (first second : Result Unit Failed) (old mid new : Seen) → IsOk first
-        → OnlyReadsWhere (IsErr first) old mid → OnlyReadsWhere (IsErr second) mid new
-        → OnlyReadsWhere (IsErr second) old new }
+    ensures nothing { (s : Seen) → OnlyReads None s s }
+    ensures joined { (reported : Option ℕ) (old mid new : Seen)
+        → OnlyReads None old mid → OnlyReads reported mid new → OnlyReads reported old new }
+    ensures both { (reported : Option ℕ) (old mid new : Seen) (p q : Blocks → Bool)
+        → Reads None old mid (λ j. IsTrue (p j)) → Reads reported mid new (λ j. IsTrue (q j))
+        → Reads reported old new (λ j. IsTrue (p j) × IsTrue (q j)) }
+    ensures weaker { (reported : Option ℕ) (old new : Seen) (p q : Blocks → Bool)
+        → Reads reported old new (λ j. IsTrue (p j))
+        → ((j : Blocks) → IsTrue (p j) → IsTrue (q j))
+        → Reads reported old new (λ j. IsTrue (q j)) }
 {}

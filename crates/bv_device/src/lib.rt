@@ -3,6 +3,7 @@
 
 mod call_kind;
 mod device;
+mod device_fault;
 mod failed;
 mod laws;
 mod lie;
@@ -15,6 +16,7 @@ mod writing;
 
 pub use call_kind::CallKind;
 pub use device::{Device, LAST_CALL};
+pub use device_fault::{DeviceFault, with_fault};
 pub use failed::Failed;
 pub use laws::{
     a_run_leaves_what_its_plan_leaves, plans_are_joined, runs_that_only_read_are_joined,

@@ -1,10 +1,12 @@
-use Rattle.bv_device.proofs.ReadLemmas.{OnlyReads-nothing, OnlyReads-append, OnlyReads-cut, OnlyReadsWhere-append, ok_is_no_err}
+use Rattle.std.proofs.Common.{refl}
+use Rattle.std.specs.Prelude.{IsTrue}
+use Rattle.bv_device.proofs.ReadsLemmas.{OnlyReads-append, Reads-append, Reads-weaker}
 use Rattle.bv_device.proofs.laws.runs_that_only_read_are_joined.Goals as goal
 
 pub returns : goal.returns
 returns c = record {
-  nothing = OnlyReads-nothing tt;
-  joined = λ result old mid new first second. OnlyReads-append result tt old mid new first second;
-  cut = λ fault old new first. OnlyReads-cut fault fault old new first;
-  other_answers = λ first second old mid new ok before after. OnlyReadsWhere-append _ _ old mid new (ok_is_no_err first ok) before after;
+  nothing = λ s. record { told = refl; blocks = refl; calls = refl; faults = refl };
+  joined = OnlyReads-append;
+  both = λ reported old mid new p q first second. Reads-append reported old mid new (λ j. IsTrue (p j)) (λ j. IsTrue (q j)) _ first second (λ j a b. (a, b));
+  weaker = λ reported old new p q reads weaker. Reads-weaker reported old new (λ j. IsTrue (p j)) (λ j. IsTrue (q j)) reads weaker;
 }
