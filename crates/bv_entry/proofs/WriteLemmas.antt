@@ -49,7 +49,7 @@ blocks_are_read e meta ranges blocks few =
     } in
     let takes = entry_takes_slots meta e lawful few in
     some_ok (entry_or_fault (entry_blocks e) e.number meta) e
-    ((entry_is_read (entry_blocks e) e.number meta e takes.blocks few).1 (record {
+    ((entry_is_read (entry_blocks e) e.number meta e few).0 (record {
       number_is = refl;
       lawful = lawful;
       blocks_are = take_all (entry_slots e) (entry_blocks e) (omega (arith, takes.slots));

@@ -1,7 +1,9 @@
 -- The tests give the count or the fault; the places give the targets.
-use Rattle.std.proofs.Common.{◌≡◌, ◌+◌, ◌-◌, ◌∙◌, ℕ, List, Ok, take, drop, refl, ap, sym, arith}
+use Rattle.std.proofs.Common.{◌≡◌, ◌+◌, ◌-◌, ◌∙◌, ℕ, List, Ok, take, drop, refl, ap, sym, subst, arith}
+use Rattle.std.proofs.lemmas.List.{length-take, get_or-take}
 use Rattle.std.specs.Result.{result_ok}
-use Rattle.spec_record.specs.Field.{field}
+use Rattle.spec_record.specs.Field.{field, IsBlock}
+use Rattle.spec_record.specs.EntryBlocks.{entry_slots}
 use Rattle.spec_record.specs.Places.{block_in}
 use Rattle.spec_record.specs.Entry.{Entry, entry_tests, entry_in, entry_or_fault, targets_in}
 use Rattle.spec_record.proofs.EntryLemmas.{entry_is_read}
@@ -32,7 +34,11 @@ returns-clause-value c =
 
 pub returns-clause-ok : goal.returns-clause-ok
 returns-clause-ok c all =
-    (entry_is_read c.args.blocks.now c.args.number c.args.meta c.new.result all c.requires.meta.to_high).0 (ap result_ok (returns-clause-value c))
+    let blocks : List (List ℕ) = c.args.blocks.now in
+    let n : ℕ = entry_slots c.new.result in
+    (entry_is_read blocks c.args.number c.args.meta c.new.result c.requires.meta.to_high).1 (ap result_ok (returns-clause-value c)) (λ k d lt.
+    let count = length-take n blocks in
+    subst IsBlock (sym (get_or-take n blocks k d (omega (arith, lt, count)))) (all k d (omega (arith, lt, count))))
 
 pub returns-clause-err : goal.returns-clause-err
 returns-clause-err c fault =
