@@ -1,0 +1,7 @@
+use Rattle.bv_txn.specs.Surveys.{bit_fault}
+use Rattle.bv_txn.proofs.FaultLemmas.{faults_more}
+use Rattle.bv_txn.proofs.tallies.add_bits.Goals as goal
+
+pub loop-d-preserved : goal.loop-d-preserved
+loop-d-preserved c =
+    faults_more c.args.faults.now.items c.loop-d.faults.items c.add_bit.new.faults.items (bit_fault c.args.base.now c.args.depths.now) c.loop-d.d c.loop-d.invariant c.in_ok-add_bit.ensures
