@@ -1,0 +1,70 @@
+-- How a recovery ends: refused, stopped by a call that failed, or done.
+use Rattle.std.proofs.Common.{◌≡◌, inl, inr, ℕ, List, length, Option, None, Result, Ok, Err, IfSome, refl, ap, sym, ◌∙◌, subst}
+use Rattle.std.specs.Prelude.{IfOk, IfErr, IsErrAnd}
+use Rattle.spec_disk.specs.declared.event.Event.{Event}
+use Rattle.spec_disk.specs.Disk.{Blocks}
+use Rattle.bv_device.specs.Seen.{Seen, Performs}
+use Rattle.bv_device.specs.Reads.{Reads, Sees}
+use Rattle.bv_device.proofs.ReadsLemmas.{OnlyReads-same, Reads-weaker}
+use Rattle.spec_inspect.specs.declared.mount_fault.MountFault.{MountFault}
+use Rattle.spec_inspect.specs.declared.mount_fault.MountFault.TheVariants as mount
+use Rattle.spec_inspect.specs.Inspection.{Inspection, inspect_of}
+use Rattle.bv_mount.specs.declared.inspected.Inspected.{Inspected}
+use Rattle.bv_mount.specs.Reports.{mount_reported_by}
+use Rattle.bv_mount.specs.Inspects.{inspection, IsInspected, RefusesMount}
+use Rattle.bv_mount.specs.Recovers.{plan_for, RunsRecovery, Recovers}
+
+err_is : {A : Type 0} (r : Result A MountFault) (f : MountFault) → IsErrAnd r (λ y. y ≡ f) → r ≡ Err f
+err_is (Ok v) f is = absurd is
+err_is (Err y) f is = ap (λ (x : MountFault). Err x) is
+
+-- the inspection refused
+pub recover_refused : (r : Result ℕ MountFault) (f : MountFault) (old new : Seen) → IsErrAnd r (λ y. y ≡ f) → Reads (mount_reported_by f) old new (λ j. RefusesMount (inspect_of j) f) → Recovers r old new
+recover_refused r f old new stopped reads = inl (record { fault = f; is = err_is r f stopped; reads = reads })
+
+-- the same outcome with another value
+performs_as : {T U : Type 0} (v : T) (w : U) (events : List Event) (old new : Seen) → Performs {T = T} {E = MountFault} (Ok v) events old new → Performs {T = U} {E = MountFault} (Ok w) events old new
+performs_as v w events old new p = record {
+  plan = p.plan;
+  blocks = p.blocks;
+  calls = record { later = p.calls.later; ok = p.calls.ok; err = tt };
+  faults = record { later = p.faults.later; failed = tt; kept = p.faults.kept };
+}
+
+performs_err : {T U : Type 0} (f : MountFault) (events : List Event) (old new : Seen) → Performs {T = T} {E = MountFault} (Err f) events old new → Performs {T = U} {E = MountFault} (Err f) events old new
+performs_err f events old new p = record {
+  plan = p.plan;
+  blocks = p.blocks;
+  calls = record { later = p.calls.later; ok = tt; err = p.calls.err };
+  faults = record { later = p.faults.later; failed = p.faults.failed; kept = tt };
+}
+
+module _ (i : Inspected) (old mid new : Seen) (reads : Reads None old mid (λ j. IsInspected j i)) where
+  found : Sees old (λ j. inspect_of j ≡ Ok (inspection i))
+  found = (Reads-weaker None old mid (λ j. IsInspected j i) (λ j. inspect_of j ≡ Ok (inspection i)) reads (λ j is. is.is)).now
+
+  same : mid ≡ old
+  same = OnlyReads-same old mid reads.only
+
+  -- the plan was done
+  pub recover_done : (count : ℕ) → count ≡ length i.replay.entries.items → Performs {T = Unit {0}} {E = MountFault} (Ok tt) (plan_for (inspection i)) mid new → Recovers (Ok count) old new
+  recover_done count is performs = inr (record {
+    found = inspection i;
+    seen = found;
+    performs = performs_as tt count (plan_for (inspection i)) old new (subst (λ (s : Seen). Performs {T = Unit {0}} {E = MountFault} (Ok tt) (plan_for (inspection i)) s new) same performs);
+    count = is;
+    fault = tt;
+  })
+
+  -- a call of the device failed
+  pub recover_cut : (r : Result ℕ MountFault) (f : MountFault) → IsErrAnd r (λ y. y ≡ f) → f ≡ mount.DeviceFault new.fault_count → Performs {T = Unit {0}} {E = MountFault} (Err f) (plan_for (inspection i)) mid new
+      → Recovers r old new
+  recover_cut r f stopped is performs =
+      let cut : Recovers (Err f) old new = inr (record {
+        found = inspection i;
+        seen = found;
+        performs = performs_err f (plan_for (inspection i)) old new (subst (λ (s : Seen). Performs {T = Unit {0}} {E = MountFault} (Err f) (plan_for (inspection i)) s new) same performs);
+        count = tt;
+        fault = is;
+      }) in
+      subst (λ (x : Result ℕ MountFault). Recovers x old new) (sym (err_is r f stopped)) cut
