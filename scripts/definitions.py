@@ -47,22 +47,30 @@ def lines_of(place):
     return sum(1 for line in lines if line.strip() and not re.match(r"(ghost )?use ", line))
 
 
-todo = [pathlib.Path(word).resolve() for word in sys.argv[1:]]
-seen = []
-while todo:
-    place = todo.pop()
-    if place not in seen:
-        seen.append(place)
-        todo += named_in(place)
-by_crate = {}
-for place in seen:
-    by_crate.setdefault(place.relative_to(TOP).parts[1], []).append(place)
-total = 0
-for crate in sorted(by_crate):
-    files = sorted(by_crate[crate])
-    counts = [lines_of(place) for place in files]
-    total += sum(counts)
-    print(f"{crate}: {len(files)} files, {sum(counts)} lines")
-    for place, count in zip(files, counts):
-        print(f"  {place.relative_to(TOP / 'crates' / crate)} {count}")
-print(f"{len(seen)} files, {total} lines")
+def reached_from(places):
+    """The files that these files stand on, themselves among them."""
+    todo, seen = [place.resolve() for place in places], []
+    while todo:
+        place = todo.pop()
+        if place not in seen:
+            seen.append(place)
+            todo += named_in(place)
+    return seen
+
+
+def main():
+    """Prints the files by their crates, each with its lines, and the sums."""
+    seen = reached_from(pathlib.Path(word) for word in sys.argv[1:])
+    by_crate = {}
+    for place in seen:
+        by_crate.setdefault(place.relative_to(TOP).parts[1], []).append(place)
+    for crate in sorted(by_crate):
+        files = sorted(by_crate[crate])
+        print(f"{crate}: {len(files)} files, {sum(map(lines_of, files))} lines")
+        for place in files:
+            print(f"  {place.relative_to(TOP / 'crates' / crate)} {lines_of(place)}")
+    print(f"{len(seen)} files, {sum(map(lines_of, seen))} lines")
+
+
+if __name__ == "__main__":
+    main()
