@@ -1,18 +1,19 @@
 -- How a recovery ends: refused, stopped by a call that failed, or done.
-use Rattle.std.proofs.Common.{◌≡◌, inl, inr, ℕ, List, length, Option, None, Result, Ok, Err, IfSome, refl, ap, sym, ◌∙◌, subst}
-use Rattle.std.specs.Prelude.{IfOk, IfErr, IsErrAnd}
+use Rattle.std.proofs.Common.{◌≡◌, ◌≤◌, inl, inr, ℕ, List, length, None, Result, Ok, Err, IfSome, ap, sym, subst}
+use Rattle.std.specs.Prelude.{IsErrAnd}
 use Rattle.spec_disk.specs.declared.event.Event.{Event}
-use Rattle.spec_disk.specs.Disk.{Blocks}
+use Rattle.spec_record.specs.Geometry.{total_blocks}
 use Rattle.bv_device.specs.Seen.{Seen, Performs}
 use Rattle.bv_device.specs.Reads.{Reads, Sees}
 use Rattle.bv_device.proofs.ReadsLemmas.{OnlyReads-same, Reads-weaker}
 use Rattle.spec_inspect.specs.declared.mount_fault.MountFault.{MountFault}
 use Rattle.spec_inspect.specs.declared.mount_fault.MountFault.TheVariants as mount
-use Rattle.spec_inspect.specs.Inspection.{Inspection, inspect_of}
+use Rattle.spec_inspect.specs.Inspection.{inspect_of}
 use Rattle.bv_mount.specs.declared.inspected.Inspected.{Inspected}
 use Rattle.bv_mount.specs.Reports.{mount_reported_by}
 use Rattle.bv_mount.specs.Inspects.{inspection, IsInspected, RefusesMount}
-use Rattle.bv_mount.specs.Recovers.{plan_for, RunsRecovery, Recovers}
+use Rattle.bv_mount.specs.Recovers.{plan_for, Recovers}
+use Rattle.bv_mount.proofs.RunLemmas.{told_keeps, told_now, told_rests, told_settles}
 
 err_is : {A : Type 0} (r : Result A MountFault) (f : MountFault) → IsErrAnd r (λ y. y ≡ f) → r ≡ Err f
 err_is (Ok v) f is = absurd is
@@ -39,7 +40,7 @@ performs_err f events old new p = record {
   faults = record { later = p.faults.later; failed = p.faults.failed; kept = tt };
 }
 
-module _ (i : Inspected) (old mid new : Seen) (reads : Reads None old mid (λ j. IsInspected j i)) where
+module _ (i : Inspected) (old mid new : Seen) (law : IfSome old.told (λ d. length d.base ≡ old.block_count)) (total : total_blocks i.geometry ≤ old.block_count) (reads : Reads None old mid (λ j. IsInspected j i)) where
   found : Sees old (λ j. inspect_of j ≡ Ok (inspection i))
   found = (Reads-weaker None old mid (λ j. IsInspected j i) (λ j. inspect_of j ≡ Ok (inspection i)) reads (λ j is. is.is)).now
 
@@ -48,23 +49,36 @@ module _ (i : Inspected) (old mid new : Seen) (reads : Reads None old mid (λ j.
 
   -- the plan was done
   pub recover_done : (count : ℕ) → count ≡ length i.replay.entries.items → Performs {T = Unit {0}} {E = MountFault} (Ok tt) (plan_for (inspection i)) mid new → Recovers (Ok count) old new
-  recover_done count is performs = inr (record {
-    found = inspection i;
-    seen = found;
-    performs = performs_as tt count (plan_for (inspection i)) old new (subst (λ (s : Seen). Performs {T = Unit {0}} {E = MountFault} (Ok tt) (plan_for (inspection i)) s new) same performs);
-    count = is;
-    fault = tt;
-  })
+  recover_done count is performs =
+      let done : Performs {T = ℕ} {E = MountFault} (Ok count) (plan_for (inspection i)) old new =
+      performs_as tt count (plan_for (inspection i)) old new (subst (λ (s : Seen). Performs {T = Unit {0}} {E = MountFault} (Ok tt) (plan_for (inspection i)) s new) same performs) in
+      inr (record {
+        found = inspection i;
+        seen = found;
+        performs = done;
+        count = is;
+        fault = tt;
+        keeps = told_keeps i old new (Ok count) law total reads.now done.plan;
+        now = told_now i old new (Ok count) law total reads.now done.plan;
+        rests = told_rests i old new (Ok count) law total reads.now;
+        settled = told_settles i old new (Ok count) law total reads.now done.plan;
+      })
 
   -- a call of the device failed
   pub recover_cut : (r : Result ℕ MountFault) (f : MountFault) → IsErrAnd r (λ y. y ≡ f) → f ≡ mount.DeviceFault new.fault_count → Performs {T = Unit {0}} {E = MountFault} (Err f) (plan_for (inspection i)) mid new
       → Recovers r old new
   recover_cut r f stopped is performs =
+      let cut_short : Performs {T = ℕ} {E = MountFault} (Err f) (plan_for (inspection i)) old new =
+      performs_err f (plan_for (inspection i)) old new (subst (λ (s : Seen). Performs {T = Unit {0}} {E = MountFault} (Err f) (plan_for (inspection i)) s new) same performs) in
       let cut : Recovers (Err f) old new = inr (record {
         found = inspection i;
         seen = found;
-        performs = performs_err f (plan_for (inspection i)) old new (subst (λ (s : Seen). Performs {T = Unit {0}} {E = MountFault} (Err f) (plan_for (inspection i)) s new) same performs);
+        performs = cut_short;
         count = tt;
         fault = is;
+        keeps = told_keeps i old new (Err f) law total reads.now cut_short.plan;
+        now = tt;
+        rests = tt;
+        settled = tt;
       }) in
       subst (λ (x : Result ℕ MountFault). Recovers x old new) (sym (err_is r f stopped)) cut

@@ -7,10 +7,10 @@ returns-in_err-inspected g c = recover_refused c.from_residual.result c.in_err-i
 
 pub returns-in_err-recover_inspected : goal.returns-in_err-recover_inspected
 returns-in_err-recover_inspected g c =
-    recover_cut c.in_ok-inspected.inspected _ _ _ c.in_ok-inspected.ensures.reads c.from_residual-in_err-recover_inspected.result c.in_err-recover_inspected.field-0.0 c.from_residual-in_err-recover_inspected.ensures.1
+    recover_cut c.in_ok-inspected.inspected _ _ _ (g.met.D.Device.told_blocks c.args.dev.now) c.in_ok-inspected.ensures.total c.in_ok-inspected.ensures.reads c.from_residual-in_err-recover_inspected.result c.in_err-recover_inspected.field-0.0 c.from_residual-in_err-recover_inspected.ensures.1
     c.in_err-recover_inspected.ensures.fault c.in_err-recover_inspected.ensures.performs
 
 pub returns : goal.returns
 returns g c =
     let count : c.len.result ≡ length c.in_ok-inspected.inspected.replay.entries.items = search rules in
-    recover_done c.in_ok-inspected.inspected _ _ _ c.in_ok-inspected.ensures.reads _ count c.in_ok-recover_inspected.ensures.performs
+    recover_done c.in_ok-inspected.inspected _ _ _ (g.met.D.Device.told_blocks c.args.dev.now) c.in_ok-inspected.ensures.total c.in_ok-inspected.ensures.reads _ count c.in_ok-recover_inspected.ensures.performs
