@@ -17,6 +17,12 @@ commands:
   root             the same as without a device
   format B N J     make an empty volume of B data blocks, N nodes and J journal blocks, version 1
   format2 B N J    the same, version 2
+  list             print ROOT SIZE for each blob, in the order of the roots
+  check            print everything that is wrong with the volume
+  recover          put in place what the journal holds, and print how many entries that were
+
+list and check write nothing to the device. check tests each blob's bytes against its root: a blob
+whose tree alone is damaged is found clean, though it can't be read window by window.
 
 A number is written in decimal digits without a leading zero, at most 18 of them.
 Version 1 has 2 to 1048576 data blocks and 128 to 32768 nodes, version 2 up to 4194304 and 65536.
@@ -36,8 +42,9 @@ The exit status is the status:
   3  the input could not be read
   4  the output could not be written
   5  the device failed, or the file could not be opened or made
-  6  the counts are out of their limits, or the device is too short
+  6  there is no volume, the counts are out of their limits, or the device is too short
   7  there was no memory
+  8  check found damage
 At 1, 2, 3, 5, 6 and 7 one line on standard output says which. A pipe that nobody reads and a
 file at its size limit end the program by a signal, unless SIGPIPE and SIGXFSZ are ignored: the
 script ./blobfs has both ignored. Where it can't build the program, it ends with status 125.

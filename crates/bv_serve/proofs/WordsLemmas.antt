@@ -5,7 +5,7 @@ use Rattle.std.specs.Str.Parse.{ParsesUnsigned}
 use Rattle.spec_record.specs.declared.geometry.Geometry.{Geometry}
 use Rattle.spec_record.specs.Tests.{IsBetween}
 use Rattle.bv_serve.specs.declared.command.Command.{Command}
-use Rattle.bv_serve.specs.declared.command.Command.TheVariants.{Root, Format}
+use Rattle.bv_serve.specs.declared.command.Command.TheVariants.{Root, ListBlobs, Check, Recover, Format}
 use Rattle.bv_serve.specs.Words.{IsNumber, IsFormatWord, IsForm, written_form, format_word}
 
 -- a list of one word, by the function that reads it
@@ -40,6 +40,9 @@ pub record FourWords (a b c d : List ℕ) : Type 0 where
 
 pub four_words : (a b c d : List ℕ) (command : Command) → IsForm (a ∷ b ∷ c ∷ d ∷ []) command → FourWords a b c d
 four_words a b c d Root form = absurd (cc (form.written))
+four_words a b c d ListBlobs form = absurd (cc (form.written))
+four_words a b c d Check form = absurd (cc (form.written))
+four_words a b c d Recover form = absurd (cc (form.written))
 four_words a b c d (Format g) form = record {
   geometry = g;
   name = record { known = form.can.version; is = cc (form.written) };
@@ -55,10 +58,6 @@ as_form a b c d g name blocks nodes journal = record {
   written = simp (name.is, blocks.written, nodes.written, journal.written) refl;
   can = record { version = name.known; blocks = blocks.short; nodes = nodes.short; journal = journal.short };
 }
-
--- the two forms are not one another's
-pub root-not-format : (words : List (List ℕ)) (g : Geometry) → IsForm words Root → IsForm words (Format g) → ⊥
-root-not-format words g p q = absurd (cc (p.written, q.written))
 
 -- a version has a word of its own
 format_word-injective : (v w : ℕ) → IsBetween 1 v 2 → IsBetween 1 w 2 → format_word v ≡ format_word w → v ≡ w
@@ -82,3 +81,42 @@ format-unique words g h p q =
     let j : g.journal ≡ h.journal = decimal_injective _ _ (omega (arith, p.can.journal)) (omega (arith, q.can.journal)) (cc same) in
     let v : g.version ≡ h.version = format_word-injective _ _ p.can.version q.can.version (cc same) in
     λ i. record { blocks = b i; nodes = n i; journal = j i; version = v i }
+
+-- the first byte of the first word
+abbrev first_byte : List (List ℕ) → ℕ
+first_byte [] = 0
+first_byte ([] ∷ words) = 0
+first_byte ((x ∷ xs) ∷ words) = x
+
+-- how long the first word is
+abbrev first_length : List (List ℕ) → ℕ
+first_length [] = 0
+first_length (word ∷ words) = length word
+
+-- words write one command
+pub one_form : (words : List (List ℕ)) (c d : Command) → IsForm words c → IsForm words d → c ≡ d
+one_form words Root Root p q = refl
+one_form words Root ListBlobs p q = let e : 114 ≡ 108 = ap first_byte (sym p.written ∙ q.written) in absurd (omega (arith, e))
+one_form words Root Check p q = let e : 114 ≡ 99 = ap first_byte (sym p.written ∙ q.written) in absurd (omega (arith, e))
+one_form words Root Recover p q = let e : 4 ≡ 7 = ap first_length (sym p.written ∙ q.written) in absurd (omega (arith, e))
+one_form words Root (Format g) p q = absurd (cc (p.written, q.written))
+one_form words ListBlobs Root p q = let e : 108 ≡ 114 = ap first_byte (sym p.written ∙ q.written) in absurd (omega (arith, e))
+one_form words ListBlobs ListBlobs p q = refl
+one_form words ListBlobs Check p q = let e : 108 ≡ 99 = ap first_byte (sym p.written ∙ q.written) in absurd (omega (arith, e))
+one_form words ListBlobs Recover p q = let e : 108 ≡ 114 = ap first_byte (sym p.written ∙ q.written) in absurd (omega (arith, e))
+one_form words ListBlobs (Format g) p q = absurd (cc (p.written, q.written))
+one_form words Check Root p q = let e : 99 ≡ 114 = ap first_byte (sym p.written ∙ q.written) in absurd (omega (arith, e))
+one_form words Check ListBlobs p q = let e : 99 ≡ 108 = ap first_byte (sym p.written ∙ q.written) in absurd (omega (arith, e))
+one_form words Check Check p q = refl
+one_form words Check Recover p q = let e : 99 ≡ 114 = ap first_byte (sym p.written ∙ q.written) in absurd (omega (arith, e))
+one_form words Check (Format g) p q = absurd (cc (p.written, q.written))
+one_form words Recover Root p q = let e : 7 ≡ 4 = ap first_length (sym p.written ∙ q.written) in absurd (omega (arith, e))
+one_form words Recover ListBlobs p q = let e : 114 ≡ 108 = ap first_byte (sym p.written ∙ q.written) in absurd (omega (arith, e))
+one_form words Recover Check p q = let e : 114 ≡ 99 = ap first_byte (sym p.written ∙ q.written) in absurd (omega (arith, e))
+one_form words Recover Recover p q = refl
+one_form words Recover (Format g) p q = absurd (cc (p.written, q.written))
+one_form words (Format g) Root p q = absurd (cc (p.written, q.written))
+one_form words (Format g) ListBlobs p q = absurd (cc (p.written, q.written))
+one_form words (Format g) Check p q = absurd (cc (p.written, q.written))
+one_form words (Format g) Recover p q = absurd (cc (p.written, q.written))
+one_form words (Format g) (Format h) p q = ap (λ (x : Geometry). Format x) (format-unique words g h p q)

@@ -4,4 +4,7 @@ pub mod Lines
 pub mod Runs
 pub mod Root
 pub mod Format
+pub mod List
+pub mod Check
+pub mod Recover
 pub mod Serves

@@ -1,19 +1,66 @@
 -- What the top call does with its words, its device, its source and its sink.
-use Rattle.std.specs.Prelude.{◌≡◌, ◌↔◌, ◌⊎◌, ℕ, ◌≤◌, List, length, Some, Ok}
+use Rattle.std.specs.Prelude.{◌≡◌, ◌↔◌, ◌⊎◌, ℕ, ◌≤◌, List, length, Some, Ok, IsSome, IsSomeAnd, IsTrue}
 use Rattle.spec_faults.specs.Faults.{Rose}
 use Rattle.spec_record.specs.declared.geometry.Geometry.{Geometry}
 use Rattle.spec_record.specs.Geometry.{total_blocks}
+use Rattle.spec_image.specs.Volume.{blobs}
 use Rattle.bv_layout.specs.Counts.{counts_or_fault}
+use Rattle.bv_device.specs.Told.{now_of}
+use Rattle.bv_device.specs.Reads.{ReadsRight}
 use Rattle.bv_device.specs.Seen.{Seen}
-use Rattle.bv_serve.specs.declared.command.Command.TheVariants.{Root, Format}
+use Rattle.spec_inspect.specs.Report.{Findings, report_of}
+use Rattle.bv_serve.specs.declared.command.Command.{Command}
+use Rattle.bv_serve.specs.declared.command.Command.TheVariants.{Root, ListBlobs, Check, Recover, Format}
 use Rattle.bv_serve.specs.declared.refusal.Refusal.TheVariants.{Usage}
 use Rattle.bv_serve.specs.declared.status.Status.{Status}
 use Rattle.bv_serve.specs.declared.status.Status.TheVariants as status
 use Rattle.bv_serve.specs.Format.{RunsFormat}
-use Rattle.bv_serve.specs.Lines.{refusal_line}
+use Rattle.bv_serve.specs.List.{RunsList}
+use Rattle.bv_serve.specs.Check.{RunsCheck}
+use Rattle.bv_serve.specs.Recover.{RunsRecover}
+use Rattle.bv_serve.specs.Lines.{refusal_line, is_clean}
 use Rattle.bv_serve.specs.Root.{root_limit, RunsRoot}
 use Rattle.bv_serve.specs.Runs.{Change, LeavesAlone, Prints}
 use Rattle.bv_serve.specs.Words.{IsForm, IsNoForm}
+
+-- what a command did
+abbrev pub Runs : Command → Status → Seen → Seen → Change → Change → Type 0
+Runs Root ended old new input out = RunsRoot ended input out
+Runs ListBlobs ended old new input out = RunsList ended old new input out
+Runs Check ended old new input out = RunsCheck ended old new input out
+Runs Recover ended old new input out = RunsRecover ended old new input out
+Runs (Format g) ended old new input out = RunsFormat g ended old new input out
+
+-- the input that the source held is within the limit
+abbrev pub IsShort : Change → Type 0
+IsShort input = IsSomeAnd input.old (λ bytes. length bytes ≤ root_limit)
+
+-- the device tells, and reads give an image with a map of blobs
+abbrev pub HoldsVolume : Seen → Type 0
+HoldsVolume s = IsSomeAnd s.told (λ d. ReadsRight d × IsSome (blobs (now_of d)))
+
+-- the device tells, and a check of what reads give is clean
+abbrev pub HoldsClean : Seen → Type 0
+HoldsClean s =
+    IsSomeAnd s.told (λ d. ReadsRight d
+    × ((found : Findings) × (report_of (now_of d) ≡ Ok found) × IsTrue (is_clean found)))
+
+-- what a command needs so that it ends well, where no call fails
+abbrev pub CanEndWell : Command → Seen → Change → Type 0
+CanEndWell Root old input = IsShort input
+CanEndWell ListBlobs old input = HoldsVolume old
+CanEndWell Check old input = HoldsClean old
+CanEndWell Recover old input = HoldsVolume old
+CanEndWell (Format g) old input =
+    (counts_or_fault g ≡ Ok tt) × (total_blocks g ≤ old.block_count)
+
+-- the status is Ok; a command that takes memory may find none
+abbrev pub EndsWell : Command → Status → Type 0
+EndsWell Root ended = ended ≡ status.Ok
+EndsWell ListBlobs ended = (ended ≡ status.Ok) ⊎ (ended ≡ status.Memory)
+EndsWell Check ended = (ended ≡ status.Ok) ⊎ (ended ≡ status.Memory)
+EndsWell Recover ended = (ended ≡ status.Ok) ⊎ (ended ≡ status.Memory)
+EndsWell (Format g) ended = ended ≡ status.Ok
 
 -- A run of the top call: its words, its status, and what became of the device, `old` and `new`, and
 -- of the streams.
@@ -23,18 +70,22 @@ pub record Serves (words : List (List ℕ)) (ended : Status) (old new : Seen) (i
   pub usage : (ended ≡ status.Usage) ↔ IsNoForm words
   -- then nothing is read, and the usage line is written
   pub refused : IsNoForm words → LeavesAlone input × Prints out (refusal_line Usage)
-  pub root : IsForm words Root → RunsRoot ended input out
-  -- where the input is within the limit and no call fails, there is a root
-  pub root_complete : IsForm words Root → ¬ Rose input.faults_before input.faults_after
-      → ¬ Rose out.faults_before out.faults_after
-      → (bytes : List ℕ) → input.old ≡ Some bytes → length bytes ≤ root_limit → ended ≡ status.Ok
-  pub format : (g : Geometry) → IsForm words (Format g) → RunsFormat g ended old new input out
-  -- where the counts are lawful, the device is large enough and no call fails, a volume is made
-  pub format_complete : (g : Geometry) → IsForm words (Format g)
-      → counts_or_fault g ≡ Ok tt → total_blocks g ≤ old.block_count
+  -- each command does what is said of it
+  pub runs : (c : Command) → IsForm words c → Runs c ended old new input out
+  -- where it has what it needs and no call fails, it ends well, or there is no memory
+  pub complete : (c : Command) → IsForm words c → CanEndWell c old input
+      → ¬ Rose input.faults_before input.faults_after
       → ¬ Rose old.fault_count new.fault_count → ¬ Rose out.faults_before out.faults_after
-      → ended ≡ status.Ok
+      → EndsWell c ended
 
--- the run leaves its device as it was: it is to make no volume, or is refused before it does
+-- the command touches no device, or is refused before it does
+abbrev pub SparesDevice : Command → Status → Type 0
+SparesDevice Root ended = Unit {0}
+SparesDevice ListBlobs ended = ⊥
+SparesDevice Check ended = ⊥
+SparesDevice Recover ended = ⊥
+SparesDevice (Format g) ended = ended ≡ status.Volume
+
+-- the run leaves its device exactly as it was
 abbrev pub LeavesDevice : List (List ℕ) → Status → Type 0
-LeavesDevice words ended = ((g : Geometry) → ¬ IsForm words (Format g)) ⊎ (ended ≡ status.Volume)
+LeavesDevice words ended = (c : Command) → IsForm words c → SparesDevice c ended

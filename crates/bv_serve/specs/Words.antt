@@ -3,7 +3,7 @@ use Rattle.std.specs.Prelude.{◌≡◌, ◌<◌, ◌^◌, ◌==◌, ℕ, List, 
 use Rattle.spec_record.specs.declared.geometry.Geometry.{Geometry}
 use Rattle.spec_record.specs.Tests.{IsBetween}
 use Rattle.bv_serve.specs.declared.command.Command.{Command}
-use Rattle.bv_serve.specs.declared.command.Command.TheVariants.{Root, Format}
+use Rattle.bv_serve.specs.declared.command.Command.TheVariants.{Root, Format, ListBlobs, Check, Recover}
 use Rattle.bv_serve.specs.declared.status.Status.{Status}
 use Rattle.bv_serve.specs.declared.status.Status.TheVariants as status
 
@@ -33,6 +33,9 @@ IsNoFormatWord word = (version : ℕ) → ¬ IsFormatWord word version
 -- the words that write a command (this project's profile)
 abbrev pub written_form : Command → List (List ℕ)
 written_form Root = codes "root" ∷ []
+written_form ListBlobs = codes "list" ∷ []
+written_form Check = codes "check" ∷ []
+written_form Recover = codes "recover" ∷ []
 written_form (Format g) =
     format_word g.version ∷ decimal g.blocks ∷ decimal g.nodes ∷ decimal g.journal ∷ []
 
@@ -46,6 +49,9 @@ pub record HasShortCounts (g : Geometry) : Type 0 where
 -- the command can be written
 abbrev pub CanBeWritten : Command → Type 0
 CanBeWritten Root = Unit {0}
+CanBeWritten ListBlobs = Unit {0}
+CanBeWritten Check = Unit {0}
+CanBeWritten Recover = Unit {0}
 CanBeWritten (Format g) = HasShortCounts g
 
 -- the words write this command

@@ -10,6 +10,12 @@ use spec_record::Geometry;
 pub enum Command {
     /// Print the Merkle root of the input.
     Root,
+    /// Print the blobs of the volume.
+    ListBlobs,
+    /// Check the volume, and print what is wrong with it.
+    Check,
+    /// Put in place what the journal of the volume holds.
+    Recover,
     /// Make a volume without a blob, of these counts and this version.
     Format(Geometry),
 }
@@ -22,10 +28,24 @@ impl Command {
         ensures none { IfNone result (IsNoForm (map string_bytes words.now)) }
     {
         match words {
-            [word] if word.as_str() == "root" => Some(Command::Root),
+            [word] => one_word(word.as_str()),
             [name, blocks, nodes, journal] => format_of(name, blocks, nodes, journal),
             _ => None,
         }
+    }
+}
+
+/// The command that one word writes, if it writes one.
+fn one_word(word: &str) -> Option<Command>
+    ensures some { IfSome result (λ command. IsForm (word.now ∷ []) command) }
+    ensures none { IfNone result (IsNoForm (word.now ∷ [])) }
+{
+    match word {
+        "root" => Some(Command::Root),
+        "list" => Some(Command::ListBlobs),
+        "check" => Some(Command::Check),
+        "recover" => Some(Command::Recover),
+        _ => None,
     }
 }
 

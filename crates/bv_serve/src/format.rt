@@ -9,11 +9,12 @@ ghost use Rattle.bv_serve.specs.Format.{refusal_of, RunsFormat};
 ghost use Rattle.bv_serve.specs.Runs.{Change, LeavesAlone, change};
 
 use crate::lines::{print, refuse};
-use crate::{Refusal, Status, VolumeFault};
+use crate::{Refusal, Status};
 use bv_device::Device;
 use bv_format::FormatFault;
 use bv_io::Sink;
-use spec_record::Geometry;
+use bv_mount::MountFault;
+use spec_record::{Geometry, SuperFault};
 
 /// What is printed where a volume was made.
 const FORMATTED: &str = "formatted\n";
@@ -42,10 +43,10 @@ fn refusal_of(fault: FormatFault) -> Refusal
 {
     match fault {
         FormatFault::Counts { field, value } => {
-            Refusal::Volume(VolumeFault::Counts { field, value })
+            Refusal::Volume(MountFault::Super(SuperFault::Counts { field, value }))
         }
         FormatFault::ShortDevice { wanted, has } => {
-            Refusal::Volume(VolumeFault::Short { wanted, has })
+            Refusal::Volume(MountFault::Super(SuperFault::ShortDevice { wanted, has }))
         }
         FormatFault::DeviceFault { .. } => Refusal::DeviceFault,
     }

@@ -2,22 +2,26 @@
 //! printed lines out.
 #![tactic(auto)]
 
+mod check;
 mod command;
+mod fault_text;
 mod format;
+mod line;
 mod lines;
+mod list;
 mod number;
+mod recover;
 mod refusal;
 mod root;
 mod serve;
 mod status;
 #[cfg(test)]
 mod tests;
-mod volume_fault;
 
 pub use command::Command;
+pub use line::Line;
 pub use lines::{print, refuse};
 pub use number::read_number;
-pub use refusal::{Line, Refusal};
+pub use refusal::Refusal;
 pub use serve::{run, run_plain};
 pub use status::Status;
-pub use volume_fault::VolumeFault;

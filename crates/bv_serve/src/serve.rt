@@ -3,8 +3,11 @@ ghost use Rattle.std.specs.Prelude.{◌≡◌, map, string_bytes};
 ghost use Rattle.bv_serve.specs.Runs.{change};
 ghost use Rattle.bv_serve.specs.Serves.{Serves, LeavesDevice};
 
+use crate::check::check;
 use crate::format::format;
 use crate::lines::refuse;
+use crate::list::list;
+use crate::recover::recover;
 use crate::root::root;
 use crate::{Command, Refusal, Status};
 use bv_device::Device;
@@ -32,7 +35,7 @@ pub fn run<D: Device, S: Source, K: Sink>(
 
 /// The commands that need no threads. Other words are its usage refusal. It waits for nobody.
 pub fn run_plain<D: Device, S: Source, K: Sink>(
-    _alloc: Global,
+    alloc: Global,
     words: &[String],
     mut dev: D,
     input: &mut S,
@@ -46,6 +49,9 @@ pub fn run_plain<D: Device, S: Source, K: Sink>(
 {
     match Command::parse(words) {
         Some(Command::Root) => (root(input, out), dev),
+        Some(Command::ListBlobs) => (list(alloc, &mut dev, out), dev),
+        Some(Command::Check) => (check(alloc, &mut dev, out), dev),
+        Some(Command::Recover) => (recover(alloc, &mut dev, out), dev),
         Some(Command::Format(geometry)) => (format(&mut dev, geometry, out), dev),
         None => (refuse(out, Refusal::Usage), dev),
     }
