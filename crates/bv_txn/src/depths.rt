@@ -42,21 +42,21 @@ fn count_all_edges(starts: &mut [u32], ends: &mut [u32], blobs: &[BlobRec])
     }
 }
 
-/// Turns the counts of starts into those of extents, block by block.
-fn sum_edges(starts: &mut [u32], ends: &[u32], blobs: &[BlobRec])
-    requires length { length ends.now ≡ length starts.old + 1 }
-    requires extents { All (λ b. All (IsExtent (length starts.old)) b.extents) blobs.now }
+/// Counts in how many extents of these blobs each data block is. Both slices are zero; the second
+/// lends its memory.
+fn fill_depths(depths: &mut [u32], ends: &mut [u32], blobs: &[BlobRec])
+    requires length { length ends.old ≡ length depths.old + 1 }
+    requires extents { All (λ b. All (IsExtent (length depths.old)) b.extents) blobs.now }
     requires few { sum_by (λ b. length b.extents) blobs.now < 2 ^ 32 }
-    requires starts { (d : ℕ) → d < length starts.old
-        → slice_index starts.old d ≡ extents_that (starts_at d) blobs.now }
-    requires ends { (d : ℕ) → d < length ends.now
-        → slice_index ends.now d ≡ extents_that (ends_at d) blobs.now }
-    ensures { AreDepths blobs.now starts.new }
+    requires no_start { (d : ℕ) → slice_index depths.old d ≡ 0 }
+    requires no_end { (d : ℕ) → slice_index ends.old d ≡ 0 }
+    ensures { AreDepths blobs.now depths.new }
 {
+    count_all_edges(depths, ends, blobs);
     let mut depth = 0;
-    for d in 0..starts.len() {
-        depth = depth + starts[d] - ends[d];
-        starts[d] = depth;
+    for d in 0..depths.len() {
+        depth = depth + depths[d] - ends[d];
+        depths[d] = depth;
     }
 }
 
@@ -74,7 +74,6 @@ pub(crate) fn depths_of(
 {
     let mut depths = Vec::from_elem(alloc, 0, count as usize)?;
     let mut ends = Vec::from_elem(alloc, 0, count as usize + 1)?;
-    count_all_edges(&mut depths, &mut ends, blobs);
-    sum_edges(&mut depths, &ends, blobs);
+    fill_depths(&mut depths, &mut ends, blobs);
     Ok(depths)
 }
