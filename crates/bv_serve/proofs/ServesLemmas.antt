@@ -1,5 +1,5 @@
 -- From what a command did to what the top call did.
-use Rattle.std.proofs.Common.{◌≡◌, ℕ, ◌+◌, ◌≤◌, List, length, Bool, true, false, Option, None, Some, Result, Ok, Err, IfSome, ◌⊎◌, inl, inr, arith, refl, ap, sym, ◌∙◌, subst, length-append}
+use Rattle.std.proofs.Common.{◌≡◌, ℕ, ◌+◌, ◌≤◌, List, length, eqb, Bool, true, false, Option, None, Some, Result, Ok, Err, IfSome, ◌⊎◌, inl, inr, arith, refl, ap, sym, ◌∙◌, subst, length-append}
 use Rattle.std.specs.Prelude.{IsSome, IsOk, IsSomeAnd, IsTrue}
 use Rattle.std.specs.Io.KnownBytes.{Consumes}
 use Rattle.spec_faults.specs.Faults.{Rose}
@@ -15,7 +15,7 @@ use Rattle.bv_serve.specs.declared.status.Status.TheVariants as status
 use Rattle.bv_serve.specs.Lines.{refusal_line, refusal_status, mount_refusal, is_clean}
 use Rattle.bv_serve.specs.Root.{root_limit, RunsRoot}
 use Rattle.bv_serve.specs.Runs.{Change, LeavesAlone, Prints}
-use Rattle.bv_serve.specs.Serves.{Serves, Runs, CanEndWell, EndsWell, HoldsVolume, HoldsClean}
+use Rattle.bv_serve.specs.Serves.{Serves, Runs, CanEndWell, EndsWell, HoldsVolume, HoldsBlobs}
 use Rattle.bv_serve.specs.Words.{IsForm, IsNoForm}
 use Rattle.bv_serve.specs.Format.{RunsFormat, Reports}
 use Rattle.bv_serve.proofs.FormatLemmas.{reports-no-usage}
@@ -25,7 +25,11 @@ use Rattle.spec_inspect.specs.declared.mount_fault.MountFault.{MountFault}
 use Rattle.spec_inspect.specs.declared.mount_fault.MountFault.TheVariants as mount
 use Rattle.spec_inspect.specs.Faults.{of_opening}
 use Rattle.spec_inspect.specs.Inspection.{Inspection, inspect_of}
-use Rattle.spec_inspect.specs.Report.{Findings, report_of}
+use Rattle.spec_inspect.specs.Report.{Findings, IsClean, report_of}
+use Rattle.spec_inspect.proofs.CleanLemmas.{whole_is_clean}
+use Rattle.spec_tree.specs.declared.Digest.{Digest}
+use Rattle.spec_tree.specs.declared.blob.Blob.{Blob}
+use Rattle.spec_crash.specs.Crash.{HoldsWhole}
 use Rattle.spec_inspect.proofs.OutcomeLemmas.{volume_or_none, blobs_are_ok}
 use Rattle.bv_device.specs.Told.{Disk, now_of}
 use Rattle.bv_device.specs.Reads.{ReadsRight, CountsReported}
@@ -143,6 +147,17 @@ report-ok found status.Volume out p clean sink = absurd p
 report-ok found status.Memory out p clean sink = absurd p
 report-ok found status.Refused out p clean sink = absurd p
 
+-- the device tells, and a check of what reads give is clean
+abbrev HoldsClean : Seen → Type 0
+HoldsClean s = IsSomeAnd s.told (λ d. ReadsRight d × ((x : Findings) × (report_of (now_of d) ≡ Ok x) × IsTrue (is_clean x)))
+
+tests_clean : (x : Findings) → IsClean x → is_clean x ≡ true
+tests_clean x clean = let faults = clean.faults in let damaged = clean.damaged in λ i. eqb (length (faults i) + length (damaged i)) 0
+
+clean_told : (told : Option Disk) → IsSomeAnd told (λ d. ReadsRight d × ((held : List (Digest × Blob)) × HoldsWhole (now_of d) held)) → IsSomeAnd told (λ d. ReadsRight d × ((x : Findings) × (report_of (now_of d) ≡ Ok x) × IsTrue (is_clean x)))
+clean_told None holds = absurd holds
+clean_told (Some d) holds = let report = whole_is_clean (now_of d) holds.1.0 holds.1.1 in (holds.0, (report.0, report.1, tests_clean report.0 report.2))
+
 same_found : (due : Result Findings OpenFault) (a b : Findings) → due ≡ Ok a → due ≡ Ok b → a ≡ b
 same_found due a b p q = cc
 
@@ -215,7 +230,7 @@ pub Serves-check : (words : List (List ℕ)) (ended : Status) (old new : Seen) (
     → RunsCheck ended old new input out → Serves words ended old new input out
 Serves-check words ended old new input out form runs =
     Serves-by words Check ended old new input out form runs (λ (e : ended ≡ status.Usage). check-no-usage runs.answer out (subst (λ (s : Status). ReportsCheck runs.answer s out) e runs.reports))
-    (λ holds source device sink. check-complete ended old new input out runs holds device sink)
+    (λ holds source device sink. check-complete ended old new input out runs (clean_told old.told holds) device sink)
 
 pub Serves-recover : (words : List (List ℕ)) (ended : Status) (old new : Seen) (input out : Change) → IsForm words Recover
     → RunsRecover ended old new input out → Serves words ended old new input out

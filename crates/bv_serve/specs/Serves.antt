@@ -1,5 +1,5 @@
 -- What the top call does with its words, its device, its source and its sink.
-use Rattle.std.specs.Prelude.{◌≡◌, ◌↔◌, ◌⊎◌, ℕ, ◌≤◌, List, length, Some, Ok, IsSome, IsSomeAnd, IsTrue}
+use Rattle.std.specs.Prelude.{◌≡◌, ◌↔◌, ◌⊎◌, ℕ, ◌≤◌, List, length, Ok, IsSome, IsSomeAnd}
 use Rattle.spec_faults.specs.Faults.{Rose}
 use Rattle.spec_record.specs.declared.geometry.Geometry.{Geometry}
 use Rattle.spec_record.specs.Geometry.{total_blocks}
@@ -8,7 +8,9 @@ use Rattle.bv_layout.specs.Counts.{counts_or_fault}
 use Rattle.bv_device.specs.Told.{now_of}
 use Rattle.bv_device.specs.Reads.{ReadsRight}
 use Rattle.bv_device.specs.Seen.{Seen}
-use Rattle.spec_inspect.specs.Report.{Findings, report_of}
+use Rattle.spec_tree.specs.declared.Digest.{Digest}
+use Rattle.spec_tree.specs.declared.blob.Blob.{Blob}
+use Rattle.spec_crash.specs.Crash.{HoldsWhole}
 use Rattle.bv_serve.specs.declared.command.Command.{Command}
 use Rattle.bv_serve.specs.declared.command.Command.TheVariants.{Root, ListBlobs, Check, Recover, Format}
 use Rattle.bv_serve.specs.declared.refusal.Refusal.TheVariants.{Usage}
@@ -18,7 +20,7 @@ use Rattle.bv_serve.specs.Format.{RunsFormat}
 use Rattle.bv_serve.specs.List.{RunsList}
 use Rattle.bv_serve.specs.Check.{RunsCheck}
 use Rattle.bv_serve.specs.Recover.{RunsRecover}
-use Rattle.bv_serve.specs.Lines.{refusal_line, is_clean}
+use Rattle.bv_serve.specs.Lines.{refusal_line}
 use Rattle.bv_serve.specs.Root.{root_limit, RunsRoot}
 use Rattle.bv_serve.specs.Runs.{Change, LeavesAlone, Prints}
 use Rattle.bv_serve.specs.Words.{IsForm, IsNoForm}
@@ -39,17 +41,17 @@ IsShort input = IsSomeAnd input.old (λ bytes. length bytes ≤ root_limit)
 abbrev pub HoldsVolume : Seen → Type 0
 HoldsVolume s = IsSomeAnd s.told (λ d. ReadsRight d × IsSome (blobs (now_of d)))
 
--- the device tells, and a check of what reads give is clean
-abbrev pub HoldsClean : Seen → Type 0
-HoldsClean s =
+-- the device tells, and reads give an image with a map of blobs, each of them whole
+abbrev pub HoldsBlobs : Seen → Type 0
+HoldsBlobs s =
     IsSomeAnd s.told (λ d. ReadsRight d
-    × ((found : Findings) × (report_of (now_of d) ≡ Ok found) × IsTrue (is_clean found)))
+    × ((held : List (Digest × Blob)) × HoldsWhole (now_of d) held))
 
 -- what a command needs so that it ends well, where no call fails
 abbrev pub CanEndWell : Command → Seen → Change → Type 0
 CanEndWell Root old input = IsShort input
 CanEndWell ListBlobs old input = HoldsVolume old
-CanEndWell Check old input = HoldsClean old
+CanEndWell Check old input = HoldsBlobs old
 CanEndWell Recover old input = HoldsVolume old
 CanEndWell (Format g) old input =
     (counts_or_fault g ≡ Ok tt) × (total_blocks g ≤ old.block_count)
