@@ -89,6 +89,20 @@ impl Machine {
         })
     }
 
+    /// The changes of the log, in order.
+    pub fn changes(&self) -> &[MapChange]
+        ensures { result.now ≡ self.now.state.log }
+    {
+        self.log.as_slice()
+    }
+
+    /// The map, the blobs that are leaving or queued among them.
+    pub fn blobs(&self) -> &BTreeMap<Digest, Blob>
+        ensures { result.now.entries ≡ self.now.state.map }
+    {
+        &self.map
+    }
+
     /// The number of the next entry.
     pub fn next(&self) -> u64
         ensures { result ≡ self.now.state.next }

@@ -182,8 +182,8 @@ struct Ending<'a> {
 fn ends_as_said<R: Abort>(rt: &R, alloc: Global, ending: &Ending) -> Result<(), Fail> {
     let mut core = Machine::new(alloc, SMALL, ending.next);
     goes_as_said(rt, &mut core, ending.name, ending.rows)?;
-    assert_eq!(rt; core.log.as_slice(), ending.log, "{}", ending.name);
-    assert_eq!(rt; core.map.len(), ending.blobs, "{}", ending.name);
+    assert_eq!(rt; core.changes(), ending.log, "{}", ending.name);
+    assert_eq!(rt; core.blobs().len(), ending.blobs, "{}", ending.name);
     assert_eq!(rt; core.room(), ending.room, "{}", ending.name);
     Ok(())
 }

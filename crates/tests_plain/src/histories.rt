@@ -239,7 +239,8 @@ fn history_of_two(alloc: Global) -> Result<History, AllocError> {
 
 #[test]
 fn the_room_counts_blobs_adds_and_purges_that_are_not_durable(rt: HostRuntime) -> Result<(), Fail> {
-    let mut history = history_of_two(rt.alloc())?;
+    let alloc = rt.alloc();
+    let mut history = history_of_two(alloc)?;
     assert!(rt; is_legal(rt.alloc(), &history, 1)?);
     assert_eq!(rt; room_of(&history), 259);
     for (i, (act, reply, room)) in ROOMS.iter().enumerate() {
