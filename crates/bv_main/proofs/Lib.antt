@@ -1,2 +1,3 @@
 -- Lemmas on the words that name devices.
 pub mod DeviceLemmas
+pub mod RequestLemmas
