@@ -1,0 +1,58 @@
+-- The adds under way as the tokens tell of them.
+use Rattle.std.specs.Prelude.{◌≡◌, ◌≤◌, ◌+◌, ◌-◌, ◌∷◌, ℕ, [], List, length, slice_index, true, Some, IfSome}
+use Rattle.std.specs.BTreeMap.{insert_entry}
+use Rattle.std.specs.Global.{Vec}
+use Rattle.spec_disk.specs.declared.event.Event.TheVariants as device
+use Rattle.spec_record.specs.Geometry.{block_at}
+use Rattle.spec_tree.specs.Tree.{need_of}
+use Rattle.spec_tree.specs.Order.{digest_cmp}
+use Rattle.spec_tree.specs.declared.Digest.{Digest}
+use Rattle.spec_core.specs.History.{last_state}
+use Rattle.spec_core.specs.State.{find}
+use Rattle.bv_claims.specs.Tokens.{IsClaimedOf, claimed_gained, claimed_left}
+use Rattle.bv_claims.specs.declared.claimed.Claimed.{Claimed}
+use Rattle.bv_claims.specs.declared.claims.Claims.{Claims}
+use Rattle.bv_ledger.specs.Entries.{Grants}
+use Rattle.bv_ledger.specs.Tables.{Tables}
+use Rattle.bv_space.specs.Owned.{Owned}
+use Rattle.bv_store.specs.Stored.{Grows}
+use Rattle.bv_volume.specs.Seen.{Seen}
+use Rattle.bv_volume.specs.declared.tokens.Admitted.{Admitted}
+use Rattle.bv_volume.specs.declared.tokens.Begun.{Begun}
+
+-- the add is under way, and isn't admitted: it has no blocks yet
+pub record IsBegun (v : Seen) (b : Begun) : Type 0 where
+  pub under_way : find (last_state v.history v.next).adds b.root ≡ Some b.size
+  pub blocks : Vec ℕ
+  pub has : find v.space.adds b.root ≡ Some blocks
+  pub none : blocks.items ≡ []
+
+-- a claim is of this table, and what was gained and what is left are so many blocks
+pub record ClaimsFor (claims : Claims) (claimed : Claimed) (need : ℕ) : Type 0 where
+  pub table : IsClaimedOf claims claimed
+  pub budget : length (claimed_gained claimed) + claimed_left claimed ≡ need
+
+-- the add is under way and admitted: it has as many blocks as its blob needs, of which so many were
+-- put
+pub record IsAdmitted (v : Seen) (a : Admitted) : Type 0 where
+  pub under_way : find (last_state v.history v.next).adds a.root ≡ Some a.size
+  pub blocks : Vec ℕ
+  pub has : find v.space.adds a.root ≡ Some blocks
+  pub need : length blocks.items ≡ need_of v.history.version a.size
+  pub put : a.put ≤ length blocks.items
+
+-- an add is put under way, without blocks, and the room falls by what it needs
+pub record Begins (t new : Tables) (o o' : Owned) (r : Digest) (n : ℕ) : Type 0 where
+  pub tables : Grants t new r n
+  pub blocks : Vec ℕ
+  pub none : blocks.items ≡ []
+  pub space : o' ≡ record o {
+    room = o.room - need_of t.setting.version n;
+    adds = insert_entry digest_cmp o.adds r blocks;
+  }
+
+-- the disk has gained one write, of these bytes at the add's next block
+abbrev pub Writes : Seen → Seen → Admitted → List ℕ → Type 0
+Writes old new a bytes = IfSome (find old.space.adds a.root) (λ v.
+    Grows old.store.told new.store.told (λ d more. more
+    ≡ device.Write (block_at old.store.geometry (slice_index v.items a.put)) bytes true ∷ []))
