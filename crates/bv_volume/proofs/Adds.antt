@@ -1,19 +1,21 @@
 -- Adds that begin, and adds that end: the tables and the space go on together.
-use Rattle.std.proofs.Common.{◌≡◌, ◌≤◌, ◌<◌, ◌⊎◌, inl, inr, ℕ, ◌+◌, ◌-◌, ◌++◌, ◌∷◌, [], Bool, true, false, cond, is_some, List, length, Option, Some, None, Result, Ok, Err, IfOk, OnOk, OnErr, IfSome, refl, ap, sym, ◌∙◌, subst, arith}
+use Rattle.std.proofs.Common.{◌≡◌, ◌≤◌, ◌<◌, ◌⊎◌, inl, inr, ℕ, ◌+◌, ◌-◌, ◌++◌, ◌∷◌, [], Bool, true, false, cond, is_some, sum, List, length, Option, Some, None, Result, Ok, Err, IfOk, OnOk, OnErr, IfSome, refl, ap, sym, ◌∙◌, subst, arith}
 use Rattle.std.specs.BTreeMap.{insert_entry, is_at}
 use Rattle.std.specs.Global.{Vec}
 use Rattle.std.specs.List.{sum_by}
 use Rattle.std.specs.Map.{remove_entry, lookup, values_of}
+use Rattle.std.proofs.lemmas.List.Sums.{sum_by-cons}
+use Rattle.std.proofs.lemmas.Map.Entries.{sum_by-remove_entry}
 use Rattle.spec_tree.specs.Order.{digest_cmp, same_digest}
 use Rattle.spec_tree.specs.Tree.{need_of}
 use Rattle.spec_tree.specs.declared.Digest.{Digest}
 use Rattle.spec_core.proofs.EntryLemmas.{lookup-insert_entry}
-use Rattle.spec_core.proofs.Holding.{digest_total, same_self}
+use Rattle.spec_core.proofs.Holding.{digest_total, one_digest, same_self}
 use Rattle.spec_core.specs.History.{last_state, setting_of}
 use Rattle.spec_core.specs.Log.{without}
 use Rattle.spec_core.specs.State.{State, find}
 use Rattle.spec_core.specs.declared.act.Act.{Act}
-use Rattle.spec_core.specs.declared.act.Act.TheVariants.{Begin, Retire}
+use Rattle.spec_core.specs.declared.act.Act.TheVariants.{Begin, Retire, Settle}
 use Rattle.spec_core.specs.declared.map_change.MapChange.{MapChange}
 use Rattle.spec_core.specs.declared.reply.Reply.{Reply}
 use Rattle.spec_core.specs.declared.reply.Reply.TheVariants.{Granted, Retired}
@@ -26,7 +28,9 @@ use Rattle.bv_claims.proofs.Counts.{times-append}
 use Rattle.bv_model.specs.Noted.{Noted}
 use Rattle.bv_model.proofs.Adds.{Sole, find-without, sole-insert, sole-without}
 use Rattle.bv_space.specs.Owned.{Owned, times_in}
-use Rattle.bv_ledger.specs.Answers.{begin_reply}
+use Rattle.bv_ledger.specs.Answers.{begin_reply, refusal_reply}
+use Rattle.bv_ledger.specs.declared.faults.Refusal.{Refusal}
+use Rattle.bv_ledger.specs.declared.faults.Refusal.TheVariants as refusal
 use Rattle.bv_ledger.specs.Tables as L
 use Rattle.bv_ledger.specs.Tables.{Tables, Accounts}
 use Rattle.bv_ledger.specs.declared.adds.BeginFault.{BeginFault}
@@ -38,7 +42,7 @@ use Rattle.bv_claims.specs.declared.claims.Claims.{Claims}
 use Rattle.bv_volume.specs.Adding.{Begins, IsBegun}
 use Rattle.bv_volume.specs.declared.tokens.Begun.{Begun}
 use Rattle.bv_volume.specs.Kept.{Kept, seen_of}
-use Rattle.bv_volume.specs.Spaced.{times_placed, HasSpace, SpaceAt, Exactly, Spaced}
+use Rattle.bv_volume.specs.Spaced.{times_placed, HasSpace, SpaceAt, Exactly, NodesAt, Noded, Spaced}
 use Rattle.bv_volume.proofs.Freed.{tabled_last}
 use Rattle.bv_volume.proofs.Quiet.{begins}
 use Rattle.bv_volume.proofs.Still.{Still, still, spaced_still}
@@ -86,6 +90,22 @@ none_there g (Some n) o h e = cc
 pub no_space : (t : Tables) (o : Owned) (s : Stored) (Held : ℕ → Type 0) → Spaced t o s Held → (r : Digest) → find t.adds r ≡ None → find o.adds r ≡ None
 no_space t o s Held spaced r none = none_there t.setting (find t.adds r) (find o.adds r) (spaced.adds r) none
 
+unset_at : (g : Setting) (a : Option ℕ) (v : Option (Vec ℕ)) (k : Option ℕ) → NodesAt g a v k → a ≡ None → k ≡ None
+unset_at g a v None at none = refl
+unset_at g None v (Some k) at none = absurd at
+unset_at g (Some n) v (Some k) at none = cc
+
+-- a root without an add has no nodes
+pub unset : (t : Tables) (o : Owned) (s : Stored) → Noded t o s → (r : Digest) → find t.adds r ≡ None → find o.nodes r ≡ None
+unset t o s n r none = unset_at t.setting (find t.adds r) (find o.adds r) (find o.nodes r) (n.at r) none
+
+nodes_put : (g : Setting) (r x : Digest) (n : ℕ) (v : Vec ℕ) (adds : List (Digest × ℕ)) (spaces : List (Digest × Vec ℕ)) (aside : List (Digest × ℕ)) → find aside r ≡ None → NodesAt g (find adds x) (find spaces x) (find aside x) → NodesAt g (find (insert_entry digest_cmp adds r n) x) (find (insert_entry digest_cmp spaces r v) x) (find aside x)
+nodes_put g r x n v adds spaces aside free old = rw (lookup-insert_entry digest_total adds r n x, lookup-insert_entry digest_total spaces r v x) (go (same_digest x r) refl)
+  where
+    go : (b : Bool) → same_digest x r ≡ b → NodesAt g (cond b (Some n) (find adds x)) (cond b (Some v) (find spaces x)) (find aside x)
+    go true e = rw (ap (λ (y : Digest). find aside y) (one_digest x r e) ∙ free) tt
+    go false e = old
+
 pub spaced_begins : (t new : Tables) (o o' : Owned) (s : Stored) (Held : ℕ → Type 0) (r : Digest) (n : ℕ) → Begins t new o o' r n → need_of t.setting.version n ≤ 65535 → Spaced t o s Held → Spaced new o' s Held
 spaced_begins t new o o' s Held r n b few spaced =
     let fresh = no_space t o s Held spaced r b.tables.fresh in
@@ -100,6 +120,12 @@ spaced_begins t new o o' s Held r n b few spaced =
       adds = λ x. space_put t.setting r x n b.blocks t.adds o.adds has (spaced.adds x);
       sole = sole-insert o.adds r b.blocks fresh spaced.sole;
       lie = spaced.lie;
+      nodes = record {
+        count = spaced.nodes.count;
+        room = spaced.nodes.room;
+        at = λ x. nodes_put t.setting r x n b.blocks t.adds o.adds o.nodes (unset t o s spaced.nodes r b.tables.fresh) (spaced.nodes.at x);
+        sole = spaced.nodes.sole;
+      };
       exactly = λ none.
           let e = spaced.exactly none in
           record {
@@ -150,14 +176,35 @@ pub record Ends (o o' : Owned) (r : Digest) (need : ℕ) (blocks : List ℕ) : T
   pub adds : o'.adds ≡ without o.adds r
   pub claims : o'.claims ≡ o.claims
   pub gone : o'.gone ≡ o.gone
+  pub nodes : o'.nodes ≡ without o.nodes r
   pub once : HasEachOnce o'.owned
 
-space_less : (g : Setting) (r x : Digest) (adds : List (Digest × ℕ)) (spaces : List (Digest × Vec ℕ)) → Sole adds → Sole spaces → SpaceAt g (find adds x) (find spaces x) → SpaceAt g (find (without adds r) x) (find (without spaces r) x)
+pub space_less : (g : Setting) (r x : Digest) (adds : List (Digest × ℕ)) (spaces : List (Digest × Vec ℕ)) → Sole adds → Sole spaces → SpaceAt g (find adds x) (find spaces x) → SpaceAt g (find (without adds r) x) (find (without spaces r) x)
 space_less g r x adds spaces a b old = rw (find-without adds r x a, find-without spaces r x b) (go (same_digest x r))
   where
     go : (c : Bool) → SpaceAt g (cond c None (find adds x)) (cond c None (find spaces x))
     go true = refl
     go false = old
+
+pub nodes_less : (g : Setting) (r x : Digest) (adds : List (Digest × ℕ)) (spaces : List (Digest × Vec ℕ)) (aside : List (Digest × ℕ)) → Sole adds → Sole spaces → Sole aside → NodesAt g (find adds x) (find spaces x) (find aside x) → NodesAt g (find (without adds r) x) (find (without spaces r) x) (find (without aside r) x)
+nodes_less g r x adds spaces aside a b c old = rw (find-without adds r x a, find-without spaces r x b, find-without aside r x c) (go (same_digest x r))
+  where
+    go : (d : Bool) → NodesAt g (cond d None (find adds x)) (cond d None (find spaces x)) (cond d None (find aside x))
+    go true = tt
+    go false = old
+
+pub sum_entries : (es : List (Digest × ℕ)) → sum_by (λ (k : ℕ). k) (values_of es) ≡ sum (values_of es)
+sum_entries [] = refl
+sum_entries (e ∷ es) = omega (arith, sum_entries es, sum_by-cons (λ (k : ℕ). k) e.1 (values_of es))
+
+-- the nodes that were set aside for an add that ends
+pub noded_ends : (t new : Tables) (o o' : Owned) (s s' : Stored) (r : Digest) → new.setting ≡ t.setting → new.adds ≡ without t.adds r → o'.adds ≡ without o.adds r → o'.nodes ≡ without o.nodes r → s'.geometry ≡ s.geometry → s'.used_nodes ≤ s.used_nodes → Sole t.adds → Sole o.adds → Noded t o s → Noded new o' s'
+noded_ends t new o o' s s' r setting adds spaces aside geometry used a b n = record {
+  count = rw (geometry, setting) n.count;
+  room = rw (aside, setting) (omega (arith, n.room, used, sum_entries (without o.nodes r), sum_entries o.nodes, sum_by-remove_entry (λ (k : ℕ). k) (is_at (digest_cmp r)) o.nodes));
+  at = λ x. rw (setting, adds, spaces, aside) (nodes_less t.setting r x t.adds o.adds o.nodes a b n.sole (n.at x));
+  sole = rw aside (sole-without o.nodes r n.sole);
+}
 
 pub spaced_ends : (t new : Tables) (o o' : Owned) (s : Stored) (Held : ℕ → Type 0) (r : Digest) (n : ℕ) (v : Vec ℕ) → Still t new → new.adds ≡ without t.adds r → find t.adds r ≡ Some n → find o.adds r ≡ Some v → Sole t.adds → Ends o o' r (need_of t.setting.version n) v.items → Spaced t o s Held → Spaced new o' s Held
 spaced_ends t new o o' s Held r n v k adds under has sole e spaced =
@@ -172,6 +219,7 @@ spaced_ends t new o o' s Held r n v k adds under has sole e spaced =
       adds = λ x. rw (k.setting, adds, e.adds) (space_less t.setting r x t.adds o.adds sole spaced.sole (spaced.adds x));
       sole = rw (e.adds) (sole-without o.adds r spaced.sole);
       lie = λ x h. rw (k.map) (spaced.lie x (k.queue x h));
+      nodes = noded_ends t new o o' s s r k.setting adds e.adds e.nodes refl (omega arith) sole spaced.sole spaced.nodes;
       exactly = λ none.
           let going : t.stopped ≡ None = sym k.stopped ∙ none in
           let old = spaced.exactly going in
@@ -207,10 +255,10 @@ module _ (n : Noted) (next : ℕ) (t : Tables) (s : Stored) (Both : Map → Map 
   pub seen_add : (r : Digest) (size : ℕ) → find t.adds r ≡ Some size → find (last_state n.history next).adds r ≡ Some size
   seen_add r size under = ap (λ (x : State). find x.adds r) kept.state ∙ under
 
-pub is_begun : (n : Noted) (next : ℕ) (t new : Tables) (o o' : Owned) (s : Stored) (Both : Map → Map → Type 0) (r : Digest) (size : ℕ) (granted : Result Grant BeginFault) (res : Result (Begun × Grant) BeginFault) → IfOk res (λ p. (granted ≡ Ok p.1) × (p.0 ≡ record { root = r; size = size })) → OnOk granted (Begins t new o o' r size) → Kept n next new s Both
+pub is_begun : (n : Noted) (next : ℕ) (t new : Tables) (o o' : Owned) (s : Stored) (Both : Map → Map → Type 0) (r : Digest) (size : ℕ) (granted : Result Grant BeginFault) (res : Result (Begun × Grant) BeginFault) → IfOk res (λ p. (granted ≡ Ok p.1) × (p.0 ≡ record { root = r; size = size })) → OnOk granted (Begins t new o o' r size) → Noded t o s → Kept n next new s Both
     → IfOk res (λ p. (p.0.root ≡ r) × (p.0.size ≡ size) × IsBegun (seen_of n next new o' s) p.0)
-is_begun n next t new o o' s Both r size granted (Err e) ok began kept = tt
-is_begun n next t new o o' s Both r size granted (Ok p) ok began kept =
+is_begun n next t new o o' s Both r size granted (Err e) ok began noded kept = tt
+is_begun n next t new o o' s Both r size granted (Ok p) ok began noded kept =
     let b : Begins t new o o' r size = subst (λ (g : Result Grant BeginFault). OnOk g (Begins t new o o' r size)) ok.0 began in
     let root = ap (λ (x : Begun). x.root) ok.1 in
     let bytes = ap (λ (x : Begun). x.size) ok.1 in
@@ -223,6 +271,7 @@ is_begun n next t new o o' s Both r size granted (Ok p) ok began kept =
         blocks = b.blocks;
         has = rw root has;
         none = b.none;
+        nodes = rw root (ap (λ (x : Owned). find x.nodes r) b.space ∙ unset t o s noded r b.tables.fresh);
       },
     )
   where
@@ -240,3 +289,8 @@ is_granted version size c c' granted (Ok p) B ok grant same w is =
 pub same_claims : {T : Type 0} (t new : Tables) (o o' : Owned) (r : Digest) (n : ℕ) (granted : Result T BeginFault) → OnOk granted (Begins t new o o' r n) → OnOk granted (o'.claims ≡ o.claims)
 same_claims t new o o' r n (Ok g) b = ap (λ (x : Owned). x.claims) b.space
 same_claims t new o o' r n (Err e) b = tt
+
+-- a settle that was refused ends its add
+pub settle_less : (t new : Tables) (log : List MapChange) (durable : ℕ) (who : Who) (r : Digest) (f : Refusal) → Accounts t log durable → L.Does t new who (Settle r) (Some (refusal_reply f)) → new.adds ≡ without t.adds r
+settle_less t new log durable who r (refusal.Stopped f) accounts does = sym (ap (λ (x : State). x.adds) (does.1 log durable accounts).state)
+settle_less t new log durable who r refusal.NumberEnd accounts does = sym (ap (λ (x : State). x.adds) (does.1 log durable accounts).state)

@@ -32,6 +32,7 @@ use Rattle.bv_store.specs.Stored.{Stored, Entry, blocks_in, placed_without}
 use Rattle.bv_volume.specs.Kept.{Kept}
 use Rattle.bv_volume.specs.Spaced.{times_placed, LiesAt, LieAll, Exactly, IsFresh, Spaced, Freed, SpaceAt}
 use Rattle.bv_volume.specs.Placed.{blocks_at}
+use Rattle.bv_volume.proofs.Still.{noded_same}
 use Rattle.bv_volume.proofs.Placed.{Places, blocks_are_taken, taken_from, lie_purged, sole_placed, taken_need, times_purged, find_other}
 
 -- the lists of a state that a legal history leads to
@@ -115,8 +116,8 @@ module _ (t new : Tables) (o o' : Owned) (s s' : Stored) (Held New : ℕ → Typ
   same_adds setting adds spaces r = rw (setting, adds, spaces) (spaced.adds r)
 
   -- all went well
-  pub spaced_durable : t.stopped ≡ None → Sole t.map → Purged t new → s'.placed ≡ placed_without s.placed t.queue → ((b : ℕ) → New b → Contains (blocks_in s'.placed) b) → Freed o o' (taken_from s.placed t.queue) → Spaced new o' s' New
-  spaced_durable going sole purged placed freed free =
+  pub spaced_durable : t.stopped ≡ None → Sole t.map → Purged t new → s'.placed ≡ placed_without s.placed t.queue → ((b : ℕ) → New b → Contains (blocks_in s'.placed) b) → s'.used_nodes ≤ s.used_nodes → Freed o o' (taken_from s.placed t.queue) → Spaced new o' s' New
+  spaced_durable going sole purged placed freed used free =
       let e = spaced.exactly going in
       let lie : LieAll new.map s'.placed = rw (purged.map, placed) (lie_purged t.map s.placed t.queue sole e.sole e.lie) in
       let owned : (b : ℕ) → times b o'.owned ≡ times_placed b s'.placed + times_in b o'.adds + times b o'.gone = λ b. rw (placed, free.adds, free.gone)
@@ -130,6 +131,7 @@ module _ (t new : Tables) (o o' : Owned) (s s' : Stored) (Held New : ℕ → Typ
         adds = same_adds purged.setting purged.adds free.adds;
         sole = rw (free.adds) spaced.sole;
         lie = λ r h. lie r;
+        nodes = noded_same t new o o' s s' purged.setting purged.adds free.adds free.nodes geometry used spaced.nodes;
         exactly = λ none. record {
           owned = owned;
           room = rw (purged.map, purged.adds, purged.setting, purged.purged) (omega (arith, e.room, e.gone, free.room, taken_need t.map s.placed t.queue sole e.sole e.lie, purged-need t.map t.queue));
@@ -149,8 +151,8 @@ module _ (t new : Tables) (o o' : Owned) (s s' : Stored) (Held New : ℕ → Typ
   same_lies (inr less) r h = ap (λ (p : Places). find p r) less ∙ find_other s.placed t.queue r h
 
   -- a call failed
-  pub spaced_stopped : Stopped t new → (s'.placed ≡ s.placed) ⊎ (s'.placed ≡ placed_without s.placed t.queue) → o' ≡ o → Spaced new o' s' New
-  spaced_stopped stopped placed same = rw same (record {
+  pub spaced_stopped : Stopped t new → s'.used_nodes ≤ s.used_nodes → (s'.placed ≡ s.placed) ⊎ (s'.placed ≡ placed_without s.placed t.queue) → o' ≡ o → Spaced new o' s' New
+  spaced_stopped stopped used placed same = rw same (record {
     table = rw (stopped.setting) spaced.table;
     blocks = rw (stopped.setting) spaced.blocks;
     geometry = rw (geometry, stopped.setting) spaced.geometry;
@@ -159,6 +161,7 @@ module _ (t new : Tables) (o o' : Owned) (s s' : Stored) (Held New : ℕ → Typ
     adds = λ r. rw (stopped.setting, stopped.adds) (spaced.adds r);
     sole = spaced.sole;
     lie = λ r h. let old = (rw (stopped.queue) at h) in rw (stopped.map, same_lies placed r old) (spaced.lie r old);
+    nodes = noded_same t new o o s s' stopped.setting stopped.adds refl refl geometry used spaced.nodes;
     exactly = λ none. let both : Some stopped.fault ≡ None = sym stopped.stopped ∙ none in cc;
   })
 
@@ -190,11 +193,11 @@ module _ (n : Noted) (next : ℕ) (t new : Tables) (o o' : Owned) (s s' : Stored
       has (Some b) None h k = absurd h
       has None l h k = absurd (omega (arith, k))
 
-  pub spaced_sync : (failed : Option ℕ) → L.Does t new who Sync (Some (device_reply Synced failed)) → s'.geometry ≡ s.geometry → (failed ≡ None → s'.placed ≡ placed_without s.placed t.queue) → (s'.placed ≡ s.placed) ⊎ (s'.placed ≡ placed_without s.placed t.queue) → (failed ≡ None → (b : ℕ) → New b → Contains (blocks_in s'.placed) b) → (blocks : List ℕ) → blocks ≡ taken_from s.placed t.queue → (failed ≡ None → Freed o o' blocks) → ((f : ℕ) → failed ≡ Some f → o' ≡ o) → Spaced new o' s' New
-  spaced_sync None does geometry placed either freed blocks are done same =
-      spaced_durable t new o o' s s' Held New spaced geometry going map_is_sole (synced_tables t new _ _ who kept.accounts going does) (placed refl) (freed refl) (subst (λ (bs : List ℕ). Freed o o' bs) are (done refl))
-  spaced_sync (Some f) does geometry placed either freed blocks are done same =
-      spaced_stopped t new o o' s s' Held New spaced geometry (failed_tables t new _ _ who f kept.accounts does) either (same f refl)
+  pub spaced_sync : (failed : Option ℕ) → L.Does t new who Sync (Some (device_reply Synced failed)) → s'.geometry ≡ s.geometry → (failed ≡ None → s'.placed ≡ placed_without s.placed t.queue) → (s'.placed ≡ s.placed) ⊎ (s'.placed ≡ placed_without s.placed t.queue) → (failed ≡ None → (b : ℕ) → New b → Contains (blocks_in s'.placed) b) → s'.used_nodes ≤ s.used_nodes → (blocks : List ℕ) → blocks ≡ taken_from s.placed t.queue → (failed ≡ None → Freed o o' blocks) → ((f : ℕ) → failed ≡ Some f → o' ≡ o) → Spaced new o' s' New
+  spaced_sync None does geometry placed either freed used blocks are done same =
+      spaced_durable t new o o' s s' Held New spaced geometry going map_is_sole (synced_tables t new _ _ who kept.accounts going does) (placed refl) (freed refl) used (subst (λ (bs : List ℕ). Freed o o' bs) are (done refl))
+  spaced_sync (Some f) does geometry placed either freed used blocks are done same =
+      spaced_stopped t new o o' s s' Held New spaced geometry (failed_tables t new _ _ who f kept.accounts does) used either (same f refl)
 
 -- memory for an entry was taken
 pub spaced_planned : (t : Tables) (o : Owned) (s s' : Stored) (Held New : ℕ → Type 0) (x : Option Entry) → s' ≡ record s { planned = x } → ((b : ℕ) → New b → Held b) → Spaced t o s Held → Spaced t o s' New
@@ -207,6 +210,7 @@ spaced_planned t o s s' Held New x is goes spaced = rw is (record {
   adds = spaced.adds;
   sole = spaced.sole;
   lie = spaced.lie;
+  nodes = noded_same t t o o s (record s { planned = x }) refl refl refl refl refl (omega arith) spaced.nodes;
   exactly = λ none. let e = spaced.exactly none in record { owned = e.owned; room = e.room; gone = e.gone; held = λ b h. e.held b (goes b h); lie = e.lie; sole = e.sole };
 })
 
@@ -221,6 +225,7 @@ spaced_fresh h t o s Held setting adds purged f = record {
   adds = λ r. rw (adds, f.none.0) refl;
   sole = rw (f.none.0) (λ r. omega arith);
   lie = λ r h. f.lie r;
+  nodes = record { count = rw setting f.nodes.0; room = rw (setting, f.none.2) (omega (arith, f.nodes.1)); at = λ r. rw (f.none.2) tt; sole = rw (f.none.2) (λ r. omega arith) };
   exactly = λ none. record {
     owned = λ b. rw (f.none.0, f.none.1) (omega (arith, f.owned b));
     room = rw (setting, adds, purged) (omega (arith, f.room));

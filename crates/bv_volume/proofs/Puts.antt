@@ -28,7 +28,7 @@ use Rattle.bv_volume.specs.Spaced.{HasSpace, SpaceAt, Spaced, times_placed}
 use Rattle.bv_volume.specs.declared.tokens.Admitted.{Admitted}
 use Rattle.bv_volume.proofs.Adds.{seen_add, tabled_add}
 use Rattle.bv_volume.proofs.Freed.{Stopped, counted, spaced_stopped}
-use Rattle.bv_volume.proofs.Still.{still, spaced_still}
+use Rattle.bv_volume.proofs.Still.{noded_same, still, spaced_still}
 
 -- a put where a write or sync failed earlier
 pub put_stopped : (t : Tables) (who : Who) (index f : ℕ) → t.stopped ≡ Some f → L.Does t t who (Put index) (Some (IsStopped f))
@@ -47,8 +47,8 @@ failed_put t new log durable who index f accounts does =
     }
 
 -- what keeps the blobs has them where they were
-pub spaced_stored : (t : Tables) (o : Owned) (s s' : Stored) (Held New : ℕ → Type 0) → s'.geometry ≡ s.geometry → s'.placed ≡ s.placed → ((b : ℕ) → New b → Held b) → Spaced t o s Held → Spaced t o s' New
-spaced_stored t o s s' Held New geometry placed goes spaced = record {
+pub spaced_stored : (t : Tables) (o : Owned) (s s' : Stored) (Held New : ℕ → Type 0) → s'.geometry ≡ s.geometry → s'.placed ≡ s.placed → s'.used_nodes ≡ s.used_nodes → ((b : ℕ) → New b → Held b) → Spaced t o s Held → Spaced t o s' New
+spaced_stored t o s s' Held New geometry placed used goes spaced = record {
   table = spaced.table;
   blocks = spaced.blocks;
   geometry = rw geometry spaced.geometry;
@@ -57,16 +57,17 @@ spaced_stored t o s s' Held New geometry placed goes spaced = record {
   adds = spaced.adds;
   sole = spaced.sole;
   lie = λ r h. rw placed (spaced.lie r h);
+  nodes = noded_same t t o o s s' refl refl refl refl geometry (omega (arith, used)) spaced.nodes;
   exactly = λ none.
       let e = spaced.exactly none in
       record { owned = λ b. rw placed (e.owned b); room = e.room; gone = e.gone; held = λ b h. rw placed (e.held b (goes b h)); lie = rw placed e.lie; sole = rw placed e.sole };
 }
 
-pub spaced_put : (t new : Tables) (o : Owned) (s s' : Stored) (Held New : ℕ → Type 0) (log : List MapChange) (durable : ℕ) (who : Who) (index : ℕ) (failed : Option ℕ) → Accounts t log durable → L.Does t new who (Put index) (Some (device_reply Written failed)) → s'.geometry ≡ s.geometry → s'.placed ≡ s.placed → ((b : ℕ) → New b → Held b) → Spaced t o s Held → Spaced new o s' New
-spaced_put t new o s s' Held New log durable who index None accounts does geometry placed goes spaced =
-    spaced_stored new o s s' Held New geometry placed goes (spaced_still t new o s Held (still t new log durable who (Put index) Written accounts does refl) (sym (ap (λ (x : State). x.adds) (does.1 log durable accounts).state)) spaced)
-spaced_put t new o s s' Held New log durable who index (Some f) accounts does geometry placed goes spaced =
-    spaced_stopped t new o o s s' Held New spaced geometry (failed_put t new log durable who index f accounts does) (inl placed) refl
+pub spaced_put : (t new : Tables) (o : Owned) (s s' : Stored) (Held New : ℕ → Type 0) (log : List MapChange) (durable : ℕ) (who : Who) (index : ℕ) (failed : Option ℕ) → Accounts t log durable → L.Does t new who (Put index) (Some (device_reply Written failed)) → s'.geometry ≡ s.geometry → s'.placed ≡ s.placed → s'.used_nodes ≡ s.used_nodes → ((b : ℕ) → New b → Held b) → Spaced t o s Held → Spaced new o s' New
+spaced_put t new o s s' Held New log durable who index None accounts does geometry placed used goes spaced =
+    spaced_stored new o s s' Held New geometry placed used goes (spaced_still t new o s Held (still t new log durable who (Put index) Written accounts does refl) (sym (ap (λ (x : State). x.adds) (does.1 log durable accounts).state)) spaced)
+spaced_put t new o s s' Held New log durable who index (Some f) accounts does geometry placed used goes spaced =
+    spaced_stopped t new o o s s' Held New spaced geometry (failed_put t new log durable who index f accounts does) (omega (arith, used)) (inl placed) refl
 
 pub put_adds : (t new : Tables) (log : List MapChange) (durable : ℕ) (who : Who) (index : ℕ) (failed : Option ℕ) → Accounts t log durable → L.Does t new who (Put index) (Some (device_reply Written failed)) → new.adds ≡ t.adds
 put_adds t new log durable who index None accounts does = sym (ap (λ (x : State). x.adds) (does.1 log durable accounts).state)
@@ -104,6 +105,7 @@ is_admitted n n' next t new o s s' Both New a b kept after setting adds old root
       has = rw root old.has;
       need = rw (version, size) old.need;
       put = omega (arith, put, old.need);
+      nodes = rw root old.nodes;
     }
 
 -- whether one block more was put or not

@@ -28,7 +28,7 @@ use Rattle.bv_space.specs.Owned.{Owned}
 use Rattle.bv_ledger.specs.Tables as L
 use Rattle.bv_ledger.specs.Tables.{Tables, Accounts}
 use Rattle.bv_store.specs.Stored.{Stored}
-use Rattle.bv_volume.specs.Spaced.{Spaced}
+use Rattle.bv_volume.specs.Spaced.{Noded, Spaced}
 use Rattle.bv_volume.proofs.Quiet.{is_quiet, quiet, silent_quiet}
 use Rattle.bv_volume.proofs.Ties.{IsSilent}
 
@@ -134,6 +134,15 @@ still t new log durable who act q accounts does h =
       purged = λ going. goes.accounts.purged (stopped ∙ going) ∙ ap (λ (n : ℕ). sum_by purge_need (drop n (change t.setting s who act q).log)) k.durable ∙ ap (λ (l : List MapChange). sum_by purge_need (drop durable l)) k.log ∙ sym (accounts.purged going);
     }
 
+-- the nodes of the same adds
+pub noded_same : (t new : Tables) (o o' : Owned) (s s' : Stored) → new.setting ≡ t.setting → new.adds ≡ t.adds → o'.adds ≡ o.adds → o'.nodes ≡ o.nodes → s'.geometry ≡ s.geometry → s'.used_nodes ≤ s.used_nodes → Noded t o s → Noded new o' s'
+noded_same t new o o' s s' setting adds spaces aside geometry used n = record {
+  count = rw (geometry, setting) n.count;
+  room = rw (aside, setting) (omega (arith, n.room, used));
+  at = λ r. rw (setting, adds, spaces, aside) (n.at r);
+  sole = rw aside n.sole;
+}
+
 -- the space of such tables with the same adds
 pub spaced_still : (t new : Tables) (o : Owned) (s : Stored) (Held : ℕ → Type 0) → Still t new → new.adds ≡ t.adds → Spaced t o s Held → Spaced new o s Held
 spaced_still t new o s Held k adds spaced = record {
@@ -145,6 +154,7 @@ spaced_still t new o s Held k adds spaced = record {
   adds = λ r. rw (k.setting, adds) (spaced.adds r);
   sole = spaced.sole;
   lie = λ r h. rw (k.map) (spaced.lie r (k.queue r h));
+  nodes = noded_same t new o o s s k.setting adds refl refl refl (omega arith) spaced.nodes;
   exactly = λ none.
       let going : t.stopped ≡ None = sym k.stopped ∙ none in
       let e = spaced.exactly going in

@@ -1,5 +1,5 @@
 -- The adds under way as the tokens tell of them.
-use Rattle.std.specs.Prelude.{◌≡◌, ◌≤◌, ◌+◌, ◌-◌, ◌∷◌, ℕ, [], List, length, slice_index, true, Some, IfSome}
+use Rattle.std.specs.Prelude.{◌≡◌, ◌≤◌, ◌+◌, ◌-◌, ◌∷◌, ℕ, [], List, length, slice_index, is_some, true, None, Some, IfSome}
 use Rattle.std.specs.BTreeMap.{insert_entry}
 use Rattle.std.specs.Global.{Vec}
 use Rattle.spec_disk.specs.declared.event.Event.TheVariants as device
@@ -15,7 +15,7 @@ use Rattle.bv_claims.specs.declared.claims.Claims.{Claims}
 use Rattle.bv_ledger.specs.Entries.{Grants}
 use Rattle.bv_ledger.specs.Tables.{Tables}
 use Rattle.bv_space.specs.Owned.{Owned}
-use Rattle.bv_store.specs.Stored.{Grows}
+use Rattle.bv_store.specs.Stored.{Grows, HasBlob, blocks_on}
 use Rattle.bv_volume.specs.Seen.{Seen}
 use Rattle.bv_volume.specs.declared.tokens.Admitted.{Admitted}
 use Rattle.bv_volume.specs.declared.tokens.Begun.{Begun}
@@ -26,6 +26,7 @@ pub record IsBegun (v : Seen) (b : Begun) : Type 0 where
   pub blocks : Vec ℕ
   pub has : find v.space.adds b.root ≡ Some blocks
   pub none : blocks.items ≡ []
+  pub nodes : find v.space.nodes b.root ≡ None
 
 -- a claim is of this table, and what was gained and what is left are so many blocks
 pub record ClaimsFor (claims : Claims) (claimed : Claimed) (need : ℕ) : Type 0 where
@@ -40,6 +41,7 @@ pub record IsAdmitted (v : Seen) (a : Admitted) : Type 0 where
   pub has : find v.space.adds a.root ≡ Some blocks
   pub need : length blocks.items ≡ need_of v.history.version a.size
   pub put : a.put ≤ length blocks.items
+  pub nodes : is_some (find v.space.nodes a.root) ≡ true
 
 -- an add is put under way, without blocks, and the room falls by what it needs
 pub record Begins (t new : Tables) (o o' : Owned) (r : Digest) (n : ℕ) : Type 0 where
@@ -56,3 +58,10 @@ abbrev pub Writes : Seen → Seen → Admitted → List ℕ → Type 0
 Writes old new a bytes = IfSome (find old.space.adds a.root) (λ v.
     Grows old.store.told new.store.told (λ d more. more
     ≡ device.Write (block_at old.store.geometry (slice_index v.items a.put)) bytes true ∷ []))
+
+-- all blocks of the add were put and, where the device tells, they have the blob
+pub record IsPut (v : Seen) (a : Admitted) : Type 0 where
+  pub all : a.put ≡ need_of v.history.version a.size
+  pub there : IfSome v.store.told (λ d. IfSome (find v.space.adds a.root) (λ x.
+      HasBlob a.root (record { size = a.size; version = v.history.version })
+      (blocks_on v.store.geometry d x.items)))

@@ -41,7 +41,7 @@ pub returns-clause-row : goal.returns-clause-row
 returns-clause-row g c = rw (← c.self.view_is, c.begun.ensures.reply) (done g c).does
 
 pub returns-clause-begun : goal.returns-clause-begun
-returns-clause-begun g c = let i = c.self.inside in is_begun c.note.new.history i.first i.ledger c.start-result.new.ledger i.space c.start-result.new.space (g.S.Store.seen i.store) (g.S.Store.both i.store) c.args.root c.args.size c.start-result.result c.begun.result c.begun.ensures.ok c.start-result.ensures.ok (done g c).kept
+returns-clause-begun g c = let i = c.self.inside in is_begun c.note.new.history i.first i.ledger c.start-result.new.ledger i.space c.start-result.new.space (g.S.Store.seen i.store) (g.S.Store.both i.store) c.args.root c.args.size c.start-result.result c.begun.result c.begun.ensures.ok c.start-result.ensures.ok c.self.invariant.1.nodes (done g c).kept
 
 pub returns-clause-grant : goal.returns-clause-grant
 returns-clause-grant g c =

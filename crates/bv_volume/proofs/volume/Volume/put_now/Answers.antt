@@ -65,7 +65,7 @@ done g c =
 spaced : (g : Over) (c : After-put_answer g) → Spaced c.put.new.self c.self.inside.space (g.S.Store.seen c.put_store-failed.new.store) (g.S.Store.held c.put_store-failed.new.store)
 spaced g c =
     let i = c.self.inside in
-    spaced_put i.ledger c.put.new.self i.space (g.S.Store.seen i.store) (g.S.Store.seen c.put_store-failed.new.store) (g.S.Store.held i.store) (g.S.Store.held c.put_store-failed.new.store) _ _ c.args.who c.args.add.now.put c.put_store-failed.result c.self.invariant.0.accounts c.put.ensures c.put_store-failed.ensures.puts.moves.geometry c.put_store-failed.ensures.placed c.put_store-failed.ensures.held c.self.invariant.1
+    spaced_put i.ledger c.put.new.self i.space (g.S.Store.seen i.store) (g.S.Store.seen c.put_store-failed.new.store) (g.S.Store.held i.store) (g.S.Store.held c.put_store-failed.new.store) _ _ c.args.who c.args.add.now.put c.put_store-failed.result c.self.invariant.0.accounts c.put.ensures c.put_store-failed.ensures.puts.moves.geometry c.put_store-failed.ensures.placed c.put_store-failed.ensures.nodes c.put_store-failed.ensures.held c.self.invariant.1
 
 pub invariant_of-self : goal.invariant_of-self
 invariant_of-self g c = ((done g c).kept, spaced g c)

@@ -48,6 +48,7 @@ spaced g c =
       adds = e.adds;
       claims = e.claims;
       gone = e.gone.0;
+      nodes = e.nodes;
       once = e.once;
     } in
     spaced_ends i.ledger c.retire-2.new.self i.space c.retire.new.self s (g.S.Store.held i.store) c.args.add.root c.args.add.size b.blocks

@@ -47,6 +47,7 @@ spaced g c =
       adds = e.adds;
       claims = e.claims;
       gone = e.gone.0;
+      nodes = e.nodes;
       once = e.once;
     } in
     spaced_ends i.ledger c.retire.new.self i.space c.give_back.new.self s (g.S.Store.held i.store) c.args.begun.root c.args.begun.size b.blocks

@@ -1,0 +1,165 @@
+use Rattle.std.proofs.Common.{◌≡◌, ◌≤◌, ◌<◌, ◌^◌, ◌⊎◌, ℕ, List, Option, Some, None, IfSome, [], refl, ap, sym, ◌∙◌, subst, arith}
+use Rattle.spec_tree.specs.declared.Digest.{Digest}
+use Rattle.spec_tree.specs.declared.blob.Blob.{Blob}
+use Rattle.spec_core.specs.History.{last_state}
+use Rattle.spec_core.specs.State.{State, find}
+use Rattle.spec_core.specs.declared.setting.Setting.{Setting}
+use Rattle.spec_core.specs.declared.act.Act.TheVariants.{Settle}
+use Rattle.spec_core.specs.declared.reply.Reply.TheVariants.{Published}
+use Rattle.bv_space.specs.Owned.{Owned}
+use Rattle.bv_ledger.specs.Answers.{device_reply}
+use Rattle.bv_ledger.specs.Entries.{prepared}
+use Rattle.bv_ledger.specs.Tables.{Tables}
+use Rattle.bv_store.specs.Stored.{Stored, Entry}
+use Rattle.bv_volume.specs.Adding.{IsAdmitted, IsPut}
+use Rattle.bv_volume.specs.Events.{Does}
+use Rattle.bv_volume.specs.Kept.{Kept, seen_of}
+use Rattle.bv_volume.specs.Publishing.{Planned}
+use Rattle.bv_volume.specs.Seen.{Seen}
+use Rattle.bv_volume.specs.Spaced.{Handed, Spaced}
+use Rattle.bv_volume.specs.declared.tokens.Admitted.{Admitted}
+use Rattle.bv_volume.specs.declared.volume.Volume.TheInside.{Inside}
+use Rattle.bv_volume.proofs.Freed.{are_taken, queue_lies, spaced_planned}
+use Rattle.bv_volume.proofs.Publishes.{can_write, entry, handed_spare, is_there, may, may_lie, planned, publish_call, publish_spaced, spaced_spare, taken_free}
+use Rattle.bv_volume.proofs.Silent.{CallDone}
+use Rattle.bv_volume.proofs.Ties.{kept_planned}
+use Rattle.bv_volume.proofs.volume.Volume.publish.Goals as goal
+use Rattle.bv_volume.proofs.volume.Volume.publish.Goals.{After-drop-purged}
+use Rattle.bv_volume.proofs.volume.Volume.publish.Given.{Over}
+
+-- the add is the token's, and an entry may be written for it
+record Ready (g : Over) (i : Inside g.row.S.Denot) (a : Admitted) : Type 0 where
+  old : IsAdmitted (seen_of i.history i.first i.ledger i.space (g.S.Store.seen i.store)) a
+  going : i.ledger.stopped ≡ None
+  number : i.ledger.next < 2 ^ 62
+
+ready : (g : Over) (i : Inside g.row.S.Denot) (a : Admitted) → Kept i.history i.first i.ledger (g.S.Store.seen i.store) (g.S.Store.both i.store) → IsAdmitted (seen_of i.history i.first i.ledger i.space (g.S.Store.seen i.store)) a → (last_state i.history.history i.first).stopped ≡ None → (last_state i.history.history i.first).next < 2 ^ 62 → Ready g i a
+ready g i a kept old going number = record {
+  old = old;
+  going = sym (ap (λ (x : State). x.stopped) kept.state) ∙ going;
+  number = subst (λ (k : ℕ). k < 2 ^ 62) (ap (λ (x : State). x.next) kept.state) number;
+}
+
+pub prepare_entry-requires-clause-lies : goal.prepare_entry-requires-clause-lies
+prepare_entry-requires-clause-lies g c = λ r h.
+    let i = c.self.inside in
+    let s = g.S.Store.seen i.store in
+    let k = ready g i c.args.add c.self.invariant.0 (rw (← c.self.view_is) at c.requires.add) (rw (← c.self.view_is) at c.requires.going) (rw (← c.self.view_is) at c.requires.number) in
+    queue_lies i.history i.first i.ledger i.ledger i.space i.space s s (g.S.Store.both i.store) (g.S.Store.held i.store) (g.S.Store.held i.store) c.args.who c.self.invariant.0 c.self.invariant.1 k.going r h
+
+pub prepare_entry-requires-clause-publish : goal.prepare_entry-requires-clause-publish
+prepare_entry-requires-clause-publish g c =
+    let i = c.self.inside in
+    let s = g.S.Store.seen i.store in
+    let k = ready g i c.args.add c.self.invariant.0 (rw (← c.self.view_is) at c.requires.add) (rw (← c.self.view_is) at c.requires.going) (rw (← c.self.view_is) at c.requires.number) in
+    may i.history i.first i.ledger i.ledger i.space i.space s s s (g.S.Store.both i.store) (g.S.Store.both i.store) (g.S.Store.both i.store) (g.S.Store.held i.store) (g.S.Store.held i.store) (g.S.Store.held i.store) c.args.who c.self.invariant.0 c.self.invariant.1 c.args.add k.old k.going k.number
+
+pub prepare_entry-requires-clause-may : goal.prepare_entry-requires-clause-may
+prepare_entry-requires-clause-may g c =
+    let i = c.self.inside in
+    let s = g.S.Store.seen i.store in
+    let k = ready g i c.args.add c.self.invariant.0 (rw (← c.self.view_is) at c.requires.add) (rw (← c.self.view_is) at c.requires.going) (rw (← c.self.view_is) at c.requires.number) in
+    rw (k.old.has, c.setting.ensures) (may_lie i.history i.first i.ledger i.ledger i.space i.space s s s (g.S.Store.both i.store) (g.S.Store.both i.store) (g.S.Store.both i.store) (g.S.Store.held i.store) (g.S.Store.held i.store) (g.S.Store.held i.store) c.args.who c.self.invariant.0 c.self.invariant.1 c.args.add k.old k.going k.number)
+
+pub invariant_of-self : goal.invariant_of-self
+invariant_of-self g c =
+    let i = c.self.inside in
+    let s = g.S.Store.seen i.store in
+    let z = g.S.Store.seen c.prepare_entry.new.store in
+    let e = c.in-Err.ensures.err in
+    let x = e.1.0 in (
+      subst (λ (t : Tables). Kept i.history i.first t z (g.S.Store.both c.prepare_entry.new.store)) (sym e.0) (kept_planned i.history i.first i.ledger s z (g.S.Store.both i.store) (g.S.Store.both c.prepare_entry.new.store) x e.1.1 c.in-Err.ensures.both c.self.invariant.0),
+      subst (λ (t : Tables). Spaced t c.prepare_entry.new.space z (g.S.Store.held c.prepare_entry.new.store)) (sym e.0)
+          (subst (λ (o : Owned). Spaced i.ledger o z (g.S.Store.held c.prepare_entry.new.store)) (sym c.in-Err.ensures.space)
+          (spaced_spare i.ledger i.space c.prepare_entry.new.space.spare z (g.S.Store.held c.prepare_entry.new.store) (spaced_planned i.ledger i.space s z (g.S.Store.held i.store) (g.S.Store.held c.prepare_entry.new.store) x e.1.1 c.in-Err.ensures.held c.self.invariant.1))),
+    )
+
+-- what the memory was taken for
+plan_of : (g : Over) (i : Inside g.row.S.Denot) (a : Admitted) (k : Ready g i a) (z : Stored) (set : Setting) → set ≡ i.ledger.setting → IfSome (find i.space.adds a.root) (λ v. Planned (g.S.Store.seen i.store) z i.ledger.queue a.root (record { size = a.size; version = set.version }) v.items) → Planned (g.S.Store.seen i.store) z i.ledger.queue a.root (record { size = a.size; version = i.ledger.setting.version }) k.old.blocks.items
+plan_of g i a k z set same is = subst (λ (x : Setting). Planned (g.S.Store.seen i.store) z i.ledger.queue a.root (record { size = a.size; version = x.version }) k.old.blocks.items) same (rw (k.old.has) at is)
+
+pub commit_store-failed-requires-clause-planned : goal.commit_store-failed-requires-clause-planned
+commit_store-failed-requires-clause-planned g c =
+    let i = c.self.inside in
+    let s = g.S.Store.seen i.store in
+    let z = g.S.Store.seen c.prepare_entry.new.store in
+    let k = ready g i c.args.add c.self.invariant.0 (rw (← c.self.view_is) at c.requires.add) (rw (← c.self.view_is) at c.requires.going) (rw (← c.self.view_is) at c.requires.number) in
+    let p = plan_of g i c.args.add k z c.setting.result c.setting.ensures c.in-Ok.ensures.planned in
+    let B = g.S.Store.both i.store in
+    let H = g.S.Store.held i.store in (
+      entry i.history i.first i.ledger i.ledger i.space i.space s z z B (g.S.Store.both c.prepare_entry.new.store) B H (g.S.Store.held c.prepare_entry.new.store) H c.args.who c.self.invariant.0 c.self.invariant.1 c.args.add k.old k.going k.number p c.in-Ok.ensures.both c.in-Ok.ensures.held,
+      planned i.history i.first i.ledger i.ledger i.space i.space s z z B (g.S.Store.both c.prepare_entry.new.store) B H (g.S.Store.held c.prepare_entry.new.store) H c.args.who c.self.invariant.0 c.self.invariant.1 c.args.add k.old k.going k.number p c.in-Ok.ensures.both c.in-Ok.ensures.held,
+      can_write i.history i.first i.ledger i.ledger i.space i.space s z z B (g.S.Store.both c.prepare_entry.new.store) B H (g.S.Store.held c.prepare_entry.new.store) H c.args.who c.self.invariant.0 c.self.invariant.1 c.args.add k.old k.going k.number p c.in-Ok.ensures.both c.in-Ok.ensures.held,
+      is_there i.history i.first i.ledger i.ledger i.space i.space s z z B (g.S.Store.both c.prepare_entry.new.store) B H (g.S.Store.held c.prepare_entry.new.store) H c.args.who c.self.invariant.0 c.self.invariant.1 c.args.add k.old k.going k.number p c.in-Ok.ensures.both c.in-Ok.ensures.held (rw (← c.self.view_is) at c.requires.put),
+      taken_free i.history i.first i.ledger i.ledger i.space i.space s z z B (g.S.Store.both c.prepare_entry.new.store) B H (g.S.Store.held c.prepare_entry.new.store) H c.args.who c.self.invariant.0 c.self.invariant.1 c.args.add k.old k.going k.number p c.in-Ok.ensures.both c.in-Ok.ensures.held,
+    )
+
+pub settled-requires : goal.settled-requires
+settled-requires g c =
+    let i = c.self.inside in
+    let s = g.S.Store.seen i.store in
+    let k = ready g i c.args.add c.self.invariant.0 (rw (← c.self.view_is) at c.requires.add) (rw (← c.self.view_is) at c.requires.going) (rw (← c.self.view_is) at c.requires.number) in
+    (i.ledger, may i.history i.first i.ledger i.ledger i.space i.space s s s (g.S.Store.both i.store) (g.S.Store.both i.store) (g.S.Store.both i.store) (g.S.Store.held i.store) (g.S.Store.held i.store) (g.S.Store.held i.store) c.args.who c.self.invariant.0 c.self.invariant.1 c.args.add k.old k.going k.number, c.in-Ok.ensures.ledger)
+
+done : (g : Over) (c : After-drop-purged g) → CallDone c.self.inside.history c.note.new.history c.self.inside.first c.self.inside.ledger c.settled.new.self c.self.inside.space c.hand_over.new.space (g.S.Store.seen c.prepare_entry.new.store) (g.S.Store.seen c.commit_store-failed.new.store) (g.S.Store.both c.commit_store-failed.new.store) c.args.who (Settle c.args.add.root) (Some (device_reply Published c.commit_store-failed.result))
+done g c =
+    let i = c.self.inside in
+    let s = g.S.Store.seen i.store in
+    let z = g.S.Store.seen c.prepare_entry.new.store in
+    let w = g.S.Store.seen c.commit_store-failed.new.store in
+    let k = ready g i c.args.add c.self.invariant.0 (rw (← c.self.view_is) at c.requires.add) (rw (← c.self.view_is) at c.requires.going) (rw (← c.self.view_is) at c.requires.number) in
+    let p = plan_of g i c.args.add k z c.setting.result c.setting.ensures c.in-Ok.ensures.planned in
+    let B = g.S.Store.both i.store in
+    let M = g.S.Store.both c.prepare_entry.new.store in
+    let N = g.S.Store.both c.commit_store-failed.new.store in
+    let H = g.S.Store.held i.store in
+    let I = g.S.Store.held c.prepare_entry.new.store in
+    let J = g.S.Store.held c.commit_store-failed.new.store in
+    let its = may i.history i.first i.ledger i.ledger i.space i.space s s s B B B H H H c.args.who c.self.invariant.0 c.self.invariant.1 c.args.add k.old k.going k.number in
+    let is = planned i.history i.first i.ledger i.ledger i.space i.space s z w B M N H I J c.args.who c.self.invariant.0 c.self.invariant.1 c.args.add k.old k.going k.number p c.in-Ok.ensures.both c.in-Ok.ensures.held in
+    let spare = (rw (← c.self.view_is) at c.requires.spare) in
+    publish_call i.history i.first i.ledger c.settled.new.self i.space c.hand_over.new.space s z w B M N H I J c.args.who c.self.invariant.0 c.self.invariant.1 c.args.add k.old k.going k.number p c.in-Ok.ensures.both c.in-Ok.ensures.held
+    (g.met.S.Store.counted c.commit_store-failed.new.store) (g.met.S.Store.both_holds c.commit_store-failed.new.store) (omega (arith, spare)) c.commit_store-failed.result c.note.new.history
+    (rw (c.device_reply-reply.ensures, c.calls.ensures) at c.note.ensures) (c.settled.ensures i.ledger its c.in-Ok.ensures.ledger) (rw is at c.commit_store-failed.ensures.enters)
+
+spaced : (g : Over) (c : After-drop-purged g) → Spaced c.settled.new.self c.hand_over.new.space (g.S.Store.seen c.commit_store-failed.new.store) (g.S.Store.held c.commit_store-failed.new.store)
+spaced g c =
+    let i = c.self.inside in
+    let s = g.S.Store.seen i.store in
+    let z = g.S.Store.seen c.prepare_entry.new.store in
+    let w = g.S.Store.seen c.commit_store-failed.new.store in
+    let k = ready g i c.args.add c.self.invariant.0 (rw (← c.self.view_is) at c.requires.add) (rw (← c.self.view_is) at c.requires.going) (rw (← c.self.view_is) at c.requires.number) in
+    let p = plan_of g i c.args.add k z c.setting.result c.setting.ensures c.in-Ok.ensures.planned in
+    let B = g.S.Store.both i.store in
+    let M = g.S.Store.both c.prepare_entry.new.store in
+    let N = g.S.Store.both c.commit_store-failed.new.store in
+    let H = g.S.Store.held i.store in
+    let I = g.S.Store.held c.prepare_entry.new.store in
+    let J = g.S.Store.held c.commit_store-failed.new.store in
+    let its = may i.history i.first i.ledger i.ledger i.space i.space s s s B B B H H H c.args.who c.self.invariant.0 c.self.invariant.1 c.args.add k.old k.going k.number in
+    let is = planned i.history i.first i.ledger i.ledger i.space i.space s z w B M N H I J c.args.who c.self.invariant.0 c.self.invariant.1 c.args.add k.old k.going k.number p c.in-Ok.ensures.both c.in-Ok.ensures.held in
+    let enters = rw is at c.commit_store-failed.ensures.enters in
+    let placed = rw is at c.commit_store-failed.ensures.placed in
+    let nodes = rw is at c.commit_store-failed.ensures.nodes in
+    let held = rw is at c.commit_store-failed.ensures.held in
+    let are = are_taken i.history i.first i.ledger i.ledger i.space i.space s s B H H c.args.who c.self.invariant.0 c.self.invariant.1 k.going c.in-Ok.purged.items i.ledger.queue c.in-Ok.ensures.blocks refl in
+    let over = rw (c.deref.ensures.value) at c.hand_over.ensures.done in
+    let unspared = λ (bs : List ℕ) (h : Handed c.prepare_entry.new.space c.hand_over.new.space c.args.add.root bs). handed_spare i.space c.hand_over.new.space c.prepare_entry.new.space.spare c.args.add.root bs (subst (λ (o : Owned). Handed o c.hand_over.new.space c.args.add.root bs) c.in-Ok.ensures.space h) in
+    publish_spaced i.history i.first i.ledger c.settled.new.self i.space c.hand_over.new.space s z w B M N H I J c.args.who c.self.invariant.0 c.self.invariant.1 c.args.add k.old k.going k.number p c.in-Ok.ensures.both c.in-Ok.ensures.held
+    c.commit_store-failed.result (c.settled.ensures i.ledger its c.in-Ok.ensures.ledger) enters.moves.geometry placed nodes c.commit_store-failed.ensures.kept held c.in-Ok.purged.items are
+    (λ ok. unspared c.in-Ok.purged.items (over ok)) (λ f failed. unspared [] (c.hand_over.ensures.kept f failed))
+
+pub invariant_of-self-2 : goal.invariant_of-self-2
+invariant_of-self-2 g c = ((done g c).kept, spaced g c)
+
+pub returns-clause-row : goal.returns-clause-row
+returns-clause-row g c =
+    let i = c.self.inside in
+    let k = ready g i c.args.add c.self.invariant.0 (rw (← c.self.view_is) at c.requires.add) (rw (← c.self.view_is) at c.requires.going) (rw (← c.self.view_is) at c.requires.number) in
+    let p = plan_of g i c.args.add k (g.S.Store.seen c.prepare_entry.new.store) c.setting.result c.setting.ensures c.in-Ok.ensures.planned in
+    rw (← c.self.view_is, c.settle_answer.ensures)
+    (subst (λ (v : Seen). Does v (seen_of c.note.new.history i.first c.settled.new.self c.hand_over.new.space (g.S.Store.seen c.commit_store-failed.new.store)) c.args.who (Settle c.args.add.root) (Some (device_reply Published c.commit_store-failed.result)))
+    (ap (λ (x : Stored). seen_of i.history i.first i.ledger i.space x) p.is) (done g c).does)
+
+pub returns-clause-crash : goal.returns-clause-crash
+returns-clause-crash g c = (done g c).safe
