@@ -39,7 +39,7 @@ taken_from placed (r ∷ rs) = found (find placed r) ++ taken_from (without plac
 
 -- ---- the map and the places go on together
 
-lie_without : (m : Map) (placed : Places) (r : Digest) → Sole m → Sole placed → LieAll m placed → LieAll (without m r) (without placed r)
+pub lie_without : (m : Map) (placed : Places) (r : Digest) → Sole m → Sole placed → LieAll m placed → LieAll (without m r) (without placed r)
 lie_without m placed r a b lie x = rw (find-without m r x a, find-without placed r x b) (go (same_digest x r))
   where
     go : (c : Bool) → LiesAt (cond c None (find m x)) (cond c None (find placed x))

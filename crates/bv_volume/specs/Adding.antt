@@ -1,7 +1,11 @@
 -- The adds under way as the tokens tell of them.
-use Rattle.std.specs.Prelude.{◌≡◌, ◌≤◌, ◌+◌, ◌-◌, ◌∷◌, ℕ, [], List, length, slice_index, is_some, true, None, Some, IfSome}
+use Rattle.std.specs.Prelude.{◌≡◌, ◌≤◌, ◌+◌, ◌-◌, ◌++◌, ◌∷◌, ℕ, [], List, length, slice_index, is_some, true, None, Some, IfSome}
 use Rattle.std.specs.BTreeMap.{insert_entry}
 use Rattle.std.specs.Global.{Vec}
+use Rattle.std.specs.List.Sorted.{IsStrictlySortedBy}
+use Rattle.std.specs.Map.{keys_of}
+use Rattle.spec_core.specs.Log.{without}
+use Rattle.bv_volume.specs.Spaced.{nodes_at}
 use Rattle.spec_disk.specs.declared.event.Event.TheVariants as device
 use Rattle.spec_record.specs.Geometry.{block_at}
 use Rattle.spec_tree.specs.Tree.{need_of}
@@ -9,7 +13,8 @@ use Rattle.spec_tree.specs.Order.{digest_cmp}
 use Rattle.spec_tree.specs.declared.Digest.{Digest}
 use Rattle.spec_core.specs.History.{last_state}
 use Rattle.spec_core.specs.State.{find}
-use Rattle.bv_claims.specs.Tokens.{IsClaimedOf, claimed_gained, claimed_left}
+use Rattle.bv_claims.specs.Blocks.{HasEachOnce, HaveSameBlocks, Rises}
+use Rattle.bv_claims.specs.Tokens.{block_count, IsClaimedOf, claimed_gained, claimed_left}
 use Rattle.bv_claims.specs.declared.claimed.Claimed.{Claimed}
 use Rattle.bv_claims.specs.declared.claims.Claims.{Claims}
 use Rattle.bv_ledger.specs.Entries.{Grants}
@@ -65,3 +70,34 @@ pub record IsPut (v : Seen) (a : Admitted) : Type 0 where
   pub there : IfSome v.store.told (λ d. IfSome (find v.space.adds a.root) (λ x.
       HasBlob a.root (record { size = a.size; version = v.history.version })
       (blocks_on v.store.geometry d x.items)))
+
+-- a claim was gathered: its blocks are the add's, so many, and the nodes that they take, of so many
+-- that are free, are set aside
+pub record Admitting (old new : Owned) (r : Digest) (free sum : ℕ) : Type 0 where
+  pub blocks : Vec ℕ
+  pub owned : HaveSameBlocks new.owned (old.owned ++ blocks.items)
+  pub rising : Rises 1 blocks.items (block_count old.claims)
+  pub count : length blocks.items ≡ sum
+  pub is : new ≡ record old {
+    owned = new.owned;
+    adds = insert_entry digest_cmp old.adds r blocks;
+    nodes = insert_entry digest_cmp old.nodes r (nodes_at blocks.items);
+  }
+  pub enough : nodes_at blocks.items ≤ free
+  pub once : HasEachOnce new.owned
+  pub sorted : IsStrictlySortedBy digest_cmp (keys_of old.adds)
+      × IsStrictlySortedBy digest_cmp (keys_of new.adds)
+  pub sorted_nodes : IsStrictlySortedBy digest_cmp (keys_of old.nodes)
+      × IsStrictlySortedBy digest_cmp (keys_of new.nodes)
+
+-- a claim was gathered and its blocks freed again, so many, and the add ended
+pub record Ending (old new : Owned) (r : Digest) (count : ℕ) : Type 0 where
+  pub owned : HaveSameBlocks new.owned old.owned
+  pub room : new.room ≡ old.room + count
+  pub is : new ≡ record old {
+    owned = new.owned;
+    room = new.room;
+    adds = without old.adds r;
+    nodes = without old.nodes r;
+  }
+  pub once : HasEachOnce new.owned
