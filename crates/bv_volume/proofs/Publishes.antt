@@ -19,7 +19,8 @@ use Rattle.spec_core.specs.declared.map_change.MapChange.TheVariants.{Publish}
 use Rattle.spec_core.specs.declared.reply.Reply.TheVariants.{Published}
 use Rattle.spec_core.specs.declared.setting.Setting.{Setting}
 use Rattle.spec_core.specs.declared.who.Who.{Who}
-use Rattle.spec_rest.specs.Rest.{Map, HoldsEither, Leaves}
+use Rattle.spec_image.specs.Leaves.{Leaves}
+use Rattle.spec_rest.specs.Rest.{Map, HoldsEither}
 use Rattle.bv_claims.specs.Blocks.{times}
 use Rattle.bv_device.specs.Told.{Disk}
 use Rattle.bv_model.specs.Noted.{Noted, with_noted}

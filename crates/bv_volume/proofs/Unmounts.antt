@@ -10,7 +10,8 @@ use Rattle.spec_core.specs.declared.act.Act.TheVariants.{Unmount}
 use Rattle.spec_core.specs.declared.reply.Reply.{Reply}
 use Rattle.spec_core.specs.declared.reply.Reply.TheVariants.{Unmounted}
 use Rattle.spec_core.specs.declared.who.Who.{Who}
-use Rattle.spec_rest.specs.Rest.{Map, HoldsEither, Leaves}
+use Rattle.spec_image.specs.Leaves.{Leaves}
+use Rattle.spec_rest.specs.Rest.{Map, HoldsEither}
 use Rattle.bv_model.specs.Noted.{Noted, with_noted}
 use Rattle.bv_space.specs.Owned.{Owned}
 use Rattle.bv_ledger.specs.Answers.{device_reply, refusal_reply}

@@ -1,11 +1,13 @@
 //! The event call that admits an add: it gets its blocks, and nodes are set aside for it.
 
 ghost use Rattle.std.specs.Prelude.{◌≡◌, ◌≤◌, ◌<◌, ◌^◌, ◌+◌, ◌-◌, ℕ, [], sum, is_some, length, vec_capacity, true, IfOk, IfSome, IfErr, OnOk, OnErr, None, Some};
+ghost use Rattle.std.specs.List.{sum_by};
 ghost use Rattle.std.specs.Map.{values_of};
 ghost use Rattle.bv_claims.specs.Tokens.{IsClaimedOf, claimed_gained, claimed_left};
 ghost use Rattle.bv_ledger.specs.Answers as A;
 ghost use Rattle.bv_ledger.specs.Tables as L;
 ghost use Rattle.bv_ledger.specs.Tables.{state_with};
+ghost use Rattle.spec_record.specs.Node.{nodes_for};
 ghost use Rattle.spec_core.specs.History.{last_state};
 ghost use Rattle.spec_core.specs.Room.{least_free};
 ghost use Rattle.spec_core.specs.State.{find};
@@ -43,7 +45,9 @@ pub enum AdmitFault {
 fn free_nodes<S: Store>(store: &S, space: &Space) -> u64
     requires { (S.seen store.now).used_nodes + sum (values_of space.now.nodes)
         ≤ (S.seen store.now).geometry.nodes }
-    ensures { result ≡ (S.seen store.now).geometry.nodes - (S.seen store.now).used_nodes
+    ensures few { (S.seen store.now).used_nodes
+        ≤ sum_by (λ blocks. nodes_for (length blocks)) (values_of (S.seen store.now).placed) }
+    ensures value { result ≡ (S.seen store.now).geometry.nodes - (S.seen store.now).used_nodes
         - sum (values_of space.now.nodes) }
 {
     store.geometry().nodes - store.used_nodes() - space.nodes_aside()

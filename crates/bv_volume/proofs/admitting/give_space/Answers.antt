@@ -14,7 +14,7 @@ runs_into-requires-clause-rising c = rw (c.deref.ensures.value) (rises_increase 
 pub admit-requires-clause-most : goal.admit-requires-clause-most
 admit-requires-clause-most c =
     let len : vec_len c.runs_into.new.into ≡ length c.runs_into.new.into.items = omega (arith, c.runs_into.new.into.ok.0) in
-    let is = c.nodes_for-need.ensures ∙ ap nodes_for (c.len.ensures ∙ len ∙ ap (λ (es : List Extent). length es) (c.runs_into.ensures ∙ ap runs c.deref.ensures.value)) in
+    let is = c.nodes_for-need.ensures ∙ ap nodes_for (c.len.ensures ∙ len ∙ ap (λ (es : List Extent). length es) (c.runs_into.ensures.items ∙ ap runs c.deref.ensures.value)) in
     most_of c.args.ledger.now.setting.version c.nodes_for-need.result _ c.gather-blocks.result.items _ c.requires.need c.gather-blocks.ensures.need is
 
 pub release-requires : goal.release-requires
@@ -23,7 +23,7 @@ release-requires c = rw (c.deref-in-Err.ensures.value) (taken_is_part _ _ _ c.ga
 pub returns-in-Ok-clause-ok : goal.returns-in-Ok-clause-ok
 returns-in-Ok-clause-ok c =
     let len : vec_len c.runs_into.new.into ≡ length c.runs_into.new.into.items = omega (arith, c.runs_into.new.into.ok.0) in
-    let is = c.nodes_for-need.ensures ∙ ap nodes_for (c.len.ensures ∙ len ∙ ap (λ (es : List Extent). length es) (c.runs_into.ensures ∙ ap runs c.deref.ensures.value)) in
+    let is = c.nodes_for-need.ensures ∙ ap nodes_for (c.len.ensures ∙ len ∙ ap (λ (es : List Extent). length es) (c.runs_into.ensures.items ∙ ap runs c.deref.ensures.value)) in
     admitting_of c.args.space.now c.gather-blocks.new.self c.give.new.self c.args.root c.nodes_for-need.result _ c.gather-blocks.result c.gather-blocks.ensures.rest c.gather-blocks.ensures.owned c.gather-blocks.ensures.need c.args.free c.give.ensures.is is c.in-Ok.ensures.ok.0 c.gather-blocks.ensures.rising c.gather-blocks.ensures.once c.give.ensures.sorted c.give.ensures.sorted_nodes
 
 pub returns-clause-err : goal.returns-clause-err

@@ -34,10 +34,10 @@ give_space-answer-requires-clause-least g c =
     let s = g.S.Store.seen i.store in
     let going : i.ledger.stopped ≡ None = search rules in
     let b : IsBegun (seen_of i.history i.first i.ledger i.space s) c.args.begun = rw (← c.self.view_is) at c.requires.begun in
-    rw (c.free_nodes-free.ensures)
+    rw (c.free_nodes-free.ensures.value)
     (enough_free i.ledger i.space s (g.S.Store.held i.store) c.args.begun.root c.self.invariant.1 going
     (map_is_sole i.history i.first i.ledger i.ledger i.space i.space s s (g.S.Store.both i.store) (g.S.Store.held i.store) (g.S.Store.held i.store) c.args.who c.self.invariant.0 c.self.invariant.1 going)
-    (adds_are_sole i.history i.first i.ledger s (g.S.Store.both i.store) c.self.invariant.0) b.nodes (g.met.S.Store.few_nodes i.store))
+    (adds_are_sole i.history i.first i.ledger s (g.S.Store.both i.store) c.self.invariant.0) b.nodes c.free_nodes-free.ensures.few)
 
 done : (g : Over) (c : After-admit_answer g) → CallDone c.self.inside.history c.note.new.history c.self.inside.first c.self.inside.ledger c.give_space-answer.new.ledger c.self.inside.space c.give_space-answer.new.space (g.S.Store.seen c.self.inside.store) (g.S.Store.seen c.self.inside.store) (g.S.Store.both c.self.inside.store) c.args.who (Admit c.args.begun.root) (Some (A.admit_reply c.give_space-answer.result))
 done g c =
@@ -60,7 +60,7 @@ spaced g c =
     let counts = (rw (← c.self.view_is) at c.requires.claimed).budget ∙ ap (λ (v : ℕ). need_of v c.args.begun.size) (sym (same_version i.history i.first i.ledger s B c.self.invariant.0)) in
     spaced_admit i.ledger e.new.ledger i.space c.note_nodes.new.self e.new.space s (g.S.Store.held i.store) _ _ c.args.who r c.args.begun.size c.free_nodes-free.result (length (claimed_gained c.args.claimed) + claimed_left c.args.claimed) b.blocks
     c.self.invariant.0.accounts c.self.invariant.1 (tabled_add i.history i.first i.ledger s B c.self.invariant.0 r c.args.begun.size b.under_way) b.has b.none b.nodes (adds_are_sole i.history i.first i.ledger s B c.self.invariant.0)
-    c.in-Ok-note_nodes.ensures.ok counts c.free_nodes-free.ensures e.result e.ensures.row e.ensures.ok e.ensures.err
+    c.in-Ok-note_nodes.ensures.ok counts c.free_nodes-free.ensures.value e.result e.ensures.row e.ensures.ok e.ensures.err
 
 pub invariant_of-self-2 : goal.invariant_of-self-2
 invariant_of-self-2 g c = ((done g c).kept, spaced g c)
