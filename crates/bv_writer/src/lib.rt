@@ -5,7 +5,6 @@ mod adding;
 mod blocks;
 mod compact;
 
-
 pub use adding::Adding;
 pub use bv_merkle::Block;
 

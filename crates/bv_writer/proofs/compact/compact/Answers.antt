@@ -21,8 +21,8 @@ loop-blocks-preserved c =
     c.as_slice.ensures.value ∙ row-is _ c.args.levels.now bytes i c.blocks-item.result c.requires c.loop-blocks-test.true c.blocks-item.is in record {
       count = omega (arith, digests_at-more (length bytes) i, c.loop-blocks.invariant.count);
       joined = c.in_ok-join_level.ensures level (level_of-sized bytes i) (length-level_of bytes i ∙ sym c.loop-blocks.invariant.count) blocks
-      ∙ ap (λ (xs : List ℕ). xs ++ digest_bytes level) c.loop-blocks.invariant.joined
-      ∙ digests_of-more bytes i;
+          ∙ ap (λ (xs : List ℕ). xs ++ digest_bytes level) c.loop-blocks.invariant.joined
+          ∙ digests_of-more bytes i;
     }
 
 pub returns : goal.returns
