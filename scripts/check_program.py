@@ -1,5 +1,6 @@
 """The built program from outside: roots against hashlib, usage, help, closed and broken streams,
-the bytes of the volumes that it makes against their format, and what the script `blobfs` adds."""
+the bytes of the volumes that it makes against their format, what it says of volumes that are whole
+and damaged, and what the script `blobfs` adds."""
 import os
 import pathlib
 import re
@@ -109,6 +110,46 @@ with tempfile.TemporaryDirectory() as name:
         line = f"volume: short 83 {has}\n".encode()
         expect(f"a file of {size} bytes", (done.returncode, done.stdout), (6, line))
         expect(f"length of a file of {size} bytes", image.stat().st_size, size)
+
+    # A volume is listed, checked and recovered; the first two change no byte, and the third none here.
+    image = folder / "read.img"
+    whole = empty_volume(64, 128, 16, 1)
+    damage = {
+        "an empty volume": (whole, (0, b""), (0, b"check: clean\nblobs 0\nbytes 0\nstale 0\n")),
+        "zeros": (bytes(83 * 8192), (6, b"volume: magic\n"), (6, b"volume: magic\n")),
+        "a file without a block": (b"", (6, b"volume: magic\n"), (6, b"volume: magic\n")),
+    }
+    for what, (data, listed, checked) in damage.items():
+        image.write_bytes(data)
+        for word, wanted in [("list", listed), ("check", checked)]:
+            done = run([f"file:{image}", word])
+            expect(f"{word} of {what}", (done.returncode, done.stdout), wanted)
+            expect(f"bytes after {word} of {what}", image.read_bytes() == data, True)
+    image.write_bytes(whole)
+    done = run([f"file:{image}", "recover"])
+    expect("recover of an empty volume", (done.returncode, done.stdout), (0, b"recovered 0\n"))
+    expect("bytes after a recover", image.read_bytes() == whole, True)
+    # A bit of the bitmap too many: block 1, bit 5.
+    marked = bytearray(whole)
+    marked[8192] |= 1 << 5
+    image.write_bytes(marked)
+    done = run([f"file:{image}", "check"])
+    wanted = (8, b"fault: bitmap 5 1\nfaults 1\n")
+    expect("check of a wrong bit", (done.returncode, done.stdout), wanted)
+    done = run([f"file:{image}", "list"])
+    expect("list of a wrong bit", (done.returncode, done.stdout), (6, b"volume: bitmap 5 1\n"))
+    # A stale header behind the journal: the next entry's number, in a slot of the ring.
+    stale = bytearray(whole)
+    stale[(4 + 2) * 8192 : (4 + 2) * 8192 + 16] = b"yrtnbolb" + (5).to_bytes(8, "little")
+    image.write_bytes(stale)
+    done = run([f"file:{image}", "check"])
+    wanted = (0, b"check: clean\nblobs 0\nbytes 0\nstale 1\n")
+    expect("check of a stale slot", (done.returncode, done.stdout), wanted)
+    done = run([f"file:{image}", "recover"])
+    expect("recover of a stale slot", (done.returncode, done.stdout), (0, b"recovered 0\n"))
+    done = run([f"file:{image}", "check"])
+    wanted = (0, b"check: clean\nblobs 0\nbytes 0\nstale 0\n")
+    expect("check after its recovery", (done.returncode, done.stdout), wanted)
 
     # A standard stream that is closed stays closed: no file gets its descriptor.
     image = folder / "closed.img"
