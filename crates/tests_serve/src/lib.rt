@@ -1,0 +1,5 @@
+//! Tests of the top call, by its words, its device, and what it prints.
+#![tactic(auto)]
+
+#[cfg(test)]
+mod volumes;
