@@ -1,0 +1,89 @@
+"""`list`, `check` and `recover` on a real file, with blobs that this script lays out by the tables of
+the format: milliseconds, best of five, at two sizes that show the growth; and `check` beside `root` of
+as many bytes, interleaved, as a ratio."""
+import pathlib
+import struct
+import sys
+import tempfile
+
+from measure import TOP, blobfs, table, timed
+
+sys.path.insert(0, str(TOP / "scripts"))
+from merkle import block_digest, root  # noqa: E402
+from volume import info_block, padded, regions, superblock  # noqa: E402
+
+BLOCK = 8192
+NO_NODE = 0xFFFFFFFF
+
+
+def blob_blocks(data):
+    """The blocks of a blob of version 1 with at most 256 data blocks: its tree, then its data."""
+    data_blocks = [padded(data[at : at + BLOCK]) for at in range(0, len(data), BLOCK)]
+    if len(data_blocks) <= 1:
+        return data_blocks
+    pieces = [data[at : at + BLOCK] for at in range(0, len(data), BLOCK)]
+    digests = b"".join(block_digest(0, BLOCK * k, piece) for k, piece in enumerate(pieces))
+    return [padded(digests), *data_blocks]
+
+
+def write_image(path, nodes, journal, blobs):
+    """An image of version 1 with these blobs, each in one extent, and an empty journal."""
+    laid = [blob_blocks(data) for data in blobs]
+    used = 1 + sum(map(len, laid))
+    blocks = used + 64
+    bitmap_blocks, node_blocks = regions(blocks, nodes)
+    head = bytearray(superblock(blocks, nodes, journal, 1))
+    struct.pack_into("<QQQ", head, 64, len(blobs), used, len(blobs))
+    bits = bytearray(bitmap_blocks * BLOCK)
+    for bit in range(used):
+        bits[bit // 8] |= 1 << (bit % 8)
+    node_map = bytearray(node_blocks * BLOCK)
+    start = 1
+    for node, (data, parts) in enumerate(zip(blobs, laid)):
+        extent = start | len(parts) << 48
+        struct.pack_into(
+            "<HHI32sQIIQ", node_map, 64 * node,
+            1, 1, NO_NODE, root(data), len(data), len(parts), 1, extent,
+        )
+        start += len(parts)
+    with open(path, "wb") as file:
+        for part in [padded(bytes(head)), bits, node_map, padded(info_block())]:
+            file.write(part)
+        file.write(bytes((journal - 1) * BLOCK + BLOCK))
+        for parts in laid:
+            file.writelines(parts)
+        file.write(bytes(64 * BLOCK))
+
+
+def best_of(program, words, stdin, rounds=5):
+    return min(timed([program, *words], stdin)[0] for _ in range(rounds))
+
+
+def main():
+    program = pathlib.Path(sys.argv[1]) if len(sys.argv) > 1 else blobfs()
+    with tempfile.TemporaryDirectory() as name:
+        folder = pathlib.Path(name)
+        image = folder / "image"
+        rows = []
+        for count in [3276, 32768]:
+            blobs = [k.to_bytes(8, "little") * 250 for k in range(count)]
+            write_image(image, 32768, 300, blobs)
+            words = ["list", "check", "recover"]
+            times = [best_of(program, [f"file:{image}", word], "/dev/null") for word in words]
+            rows.append([str(count), *[f"{1000 * t:.1f}" for t in times]])
+        table(["blobs of 2,000 bytes", "list ms", "check ms", "recover ms"], rows)
+
+        blobs = [(k.to_bytes(8, "little") * 8192)[:65536] for k in range(1000)]
+        write_image(image, 1024, 300, blobs)
+        whole = folder / "bytes"
+        whole.write_bytes(b"".join(blobs))
+        check, rooted = [], []
+        for _ in range(5):
+            check.append(timed([program, f"file:{image}", "check"], "/dev/null")[0])
+            rooted.append(timed([program, "root"], whole)[0])
+        ratio = min(rooted) / min(check)
+        print(f"check of 1,000 blobs of 64 KiB {1000 * min(check):.0f} ms, "
+              f"root of as many bytes {1000 * min(rooted):.0f} ms, check's rate to it {ratio:.2f}")
+
+
+main()
