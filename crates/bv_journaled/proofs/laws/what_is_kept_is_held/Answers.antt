@@ -1,0 +1,5 @@
+use Rattle.bv_journaled.proofs.HeldLemmas.{kept_held}
+use Rattle.bv_journaled.proofs.laws.what_is_kept_is_held.Goals as goal
+
+pub returns : goal.returns
+returns c = kept_held

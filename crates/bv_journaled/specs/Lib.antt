@@ -1,0 +1,2 @@
+-- What a volume's disk keeps from one call of its store to the next.
+pub mod Kept
