@@ -4,3 +4,5 @@ pub mod QuietLemmas
 pub mod StopLemmas
 pub mod CallLemmas
 pub mod EntryLemmas
+pub mod RunLemmas
+pub mod RowLemmas

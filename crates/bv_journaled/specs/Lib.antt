@@ -1,2 +1,4 @@
 -- What a volume's disk keeps from one call of its store to the next.
 pub mod Kept
+pub mod Since
+pub mod Standing

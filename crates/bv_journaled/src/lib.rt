@@ -3,6 +3,8 @@
 #![tactic(auto)]
 
 mod laws;
+mod prepared;
+mod store;
 
 pub use laws::{
     a_blob_that_lasts_is_kept, a_checkpoint_keeps_the_newest_map, a_put_keeps_both_maps,
@@ -10,3 +12,4 @@ pub use laws::{
     blocks_that_have_a_blob_are_whole_and_sound, changes_that_fit_keep_their_map,
     what_is_kept_is_held,
 };
+pub use store::JournaledStore;

@@ -1,0 +1,120 @@
+-- What a run of the device is to what the store shows.
+use Rattle.std.proofs.Common.{◌≡◌, ◌<◌, ◌≤◌, ℕ, ◌+◌, ◌-◌, List, [], ◌∷◌, ◌++◌, length, take, drop, true, false, Option, Some, None, Result, Ok, Err, refl, ap, sym, ◌∙◌, subst, inl, inr, arith, length-append, length-drop}
+use Rattle.std.proofs.lemmas.List.{take-append-le, drop-append-le}
+use Rattle.std.specs.Prelude.{option_map, IfSome, OnOk}
+use Rattle.spec_disk.specs.declared.event.Event.{Event}
+use Rattle.spec_disk.specs.Disk.{Blocks, block, now_after}
+use Rattle.spec_disk.specs.Images.{written_to}
+use Rattle.spec_record.specs.declared.geometry.Geometry.{Geometry}
+use Rattle.spec_record.specs.Geometry.{block_at}
+use Rattle.spec_rest.specs.Rest.{Map, LeavesWithin, HoldsEither}
+use Rattle.bv_device.specs.Told.{Disk, disk_with, with_event, now_of}
+use Rattle.bv_device.specs.Plan.{IsPlan, failed_event, with_events, CutShort, Follows, CountsCalls}
+use Rattle.bv_device.specs.Seen.{Seen, Performs}
+use Rattle.bv_device.proofs.PlanLemmas.{disk_with-nil, disk_with-append, with_events-some, with_events-none, Follows-none}
+use Rattle.bv_journal.specs.Stops.{Stops}
+use Rattle.bv_store.specs.Stored.{Stored, Counts, Grows, SameData, LeavesEither}
+use Rattle.bv_journaled.specs.Since.{began_at, since, calls_since}
+use Rattle.bv_journaled.specs.Standing.{Standing, stored_of, IsStanding, RestsOn, Both}
+use Rattle.bv_journaled.proofs.QuietLemmas.{SparesData}
+use Rattle.bv_journaled.proofs.RunLemmas.{Run, run_came, one_run, ok_told, now_same}
+use Rattle.bv_journaled.proofs.StopLemmas.{Left, run_leaves}
+
+-- ---- the disk since the mount began
+
+pub since_with : (n : ℕ) (d : Disk) (p : List Event) → n ≤ length d.trace → since n (disk_with d p) ≡ disk_with (since n d) p
+since_with n d p le =
+    let front = take-append-le n d.trace p le in
+    let back = drop-append-le n d.trace p le in
+    λ i. record { base = now_after d.base (front i); trace = back i }
+
+began_with : (n : ℕ) (d : Disk) (p : List Event) → n ≤ length d.trace → began_at n (disk_with d p) ≡ began_at n d
+began_with n d p le = let front = take-append-le n d.trace p le in λ i. record { base = d.base; trace = front i }
+
+some_since : (n : ℕ) (d : Disk) (p : List Event) (o : Option Disk) → n ≤ length d.trace → o ≡ Some (disk_with d p) → option_map (since n) o ≡ Some (disk_with (since n d) p)
+some_since n d p o le is = ap (option_map (since n)) is ∙ ap (λ (y : Disk). Some y) (since_with n d p le)
+
+cut_since : (n : ℕ) (plan : List Event) (d : Disk) (new : Option Disk) → n ≤ length d.trace → CutShort plan (Some d) new → CutShort plan (Some (since n d)) (option_map (since n) new)
+cut_since n [] d new le cut = absurd cut
+cut_since n (e ∷ plan) d new le cut = elim cut [
+  | inl same ↦ inl (ap (option_map (since n)) same)
+  | inr more ↦ elim more [
+    | inl f ↦ inr (inl (some_since n d (failed_event e ∷ []) new le f))
+    | inr on ↦ inr (inr (subst (λ (x : Disk). CutShort plan (Some x) (option_map (since n) new)) (since_with n d (e ∷ []) le)
+      (cut_since n plan (disk_with d (e ∷ [])) new (omega (arith, le, length-append d.trace (e ∷ []))) on)))
+  ]
+]
+
+pub follows_since : {T E : Type 0} (r : Result T E) (n : ℕ) (plan : List Event) (d : Disk) (new : Option Disk) → n ≤ length d.trace → Follows r plan (Some d) new → Follows r plan (Some (since n d)) (option_map (since n) new)
+follows_since (Ok v) n plan d new le f = some_since n d plan new le (f ∙ with_events-some d plan) ∙ sym (with_events-some (since n d) plan)
+follows_since (Err x) n plan d new le f = cut_since n plan d new le f
+
+-- ---- what the store shows of a run
+
+module _ {T E : Type 0} (r : Result T E) (plan : List Event) (old new : Standing) (is : IsStanding old) (geometry : new.meta.geometry ≡ old.meta.geometry) (opened : new.opened ≡ old.opened) (performs : Performs r plan old.device new.device) where
+  same_began : (o : Option Disk) → IfSome o (λ d. length d.trace ≡ old.device.calls_made) → Follows r plan o new.device.told → option_map (began_at old.opened) new.device.told ≡ option_map (began_at old.opened) o
+  same_began None long f = ap (option_map (began_at old.opened)) (Follows-none r plan new.device.told f)
+  same_began (Some d) long f =
+      let came = run_came r plan d new.device.told f in
+      ap (option_map (began_at old.opened)) came.is ∙ ap (λ (y : Disk). Some y) (began_with old.opened d came.events (omega (arith, long, is.opened)))
+
+  later : (o : Option Disk) → IfSome o (λ d. length d.trace ≡ old.device.calls_made) → Follows r plan o new.device.told
+      → calls_since (option_map (since old.opened) o) (old.device.calls_made - old.opened) ≤ calls_since (option_map (since old.opened) new.device.told) (new.device.calls_made - old.opened)
+  later None long f =
+      subst (λ (x : Option Disk). old.device.calls_made - old.opened ≤ calls_since (option_map (since old.opened) x) (new.device.calls_made - old.opened)) (sym (Follows-none r plan new.device.told f)) (omega (arith, performs.calls.later))
+  later (Some d) long f =
+      let came = run_came r plan d new.device.told f in
+      let le : old.opened ≤ length d.trace = omega (arith, long, is.opened) in
+      subst (λ (x : Option Disk). length (drop old.opened d.trace) ≤ calls_since x (new.device.calls_made - old.opened)) (sym (some_since old.opened d came.events new.device.told le came.is))
+      (omega (arith, length-append (drop old.opened d.trace) came.events))
+
+  pub run_counts : Counts r (stored_of old) (stored_of new)
+  run_counts = record {
+    geometry = geometry;
+    began = ap (λ (n : ℕ). option_map (began_at n) new.device.told) opened ∙ same_began old.device.told is.told performs.plan;
+    calls = subst (λ (n : ℕ). calls_since (option_map (since old.opened) old.device.told) (old.device.calls_made - old.opened) ≤ calls_since (option_map (since n) new.device.told) (new.device.calls_made - n)) (sym opened) (later old.device.told is.told performs.plan);
+    faults = performs.faults;
+  }
+
+  -- what is told has grown by the events of the run
+  grown : (P : Disk → List Event → Type 0) (o : Option Disk) → IfSome o (λ d. length d.trace ≡ old.device.calls_made) → Follows r plan o new.device.told
+      → ((d : Disk) (more : List Event) → option_map (since old.opened) o ≡ Some d → Follows r plan (Some d) (Some (disk_with d more)) → P d more)
+      → Grows (option_map (since old.opened) o) (option_map (since old.opened) new.device.told) P
+  grown P None long f each = ap (option_map (since old.opened)) (Follows-none r plan new.device.told f)
+  grown P (Some d) long f each =
+      let came = run_came r plan d new.device.told f in
+      let le : old.opened ≤ length d.trace = omega (arith, long, is.opened) in
+      let told = some_since old.opened d came.events new.device.told le came.is in (
+        came.events,
+        told,
+        each (since old.opened d) came.events refl (subst (λ (x : Option Disk). Follows r plan (Some (since old.opened d)) x) told (follows_since r old.opened plan d new.device.told le f)),
+      )
+
+  pub run_grows : (P : Disk → List Event → Type 0) → ((d : Disk) (more : List Event) → (stored_of old).told ≡ Some d → Follows r plan (Some d) (Some (disk_with d more)) → P d more) → Grows (stored_of old).told (stored_of new).told P
+  run_grows P each =
+      subst (λ (n : ℕ). Grows (stored_of old).told (option_map (since n) new.device.told) P) (sym opened) (grown P old.device.told is.told performs.plan each)
+
+-- where the disk told keeps something, a run keeps what its plan's stops leave
+pub told_rests : (s : Standing) (d : Disk) (a b : Map) → (stored_of s).told ≡ Some d → Both s a b → RestsOn s d a b
+told_rests s d a b is both = subst (λ (o : Option Disk). IfSome o (λ x. RestsOn s x a b)) is both
+
+pub rests_told : (s : Standing) (a b : Map) (o : Option Disk) → (stored_of s).told ≡ o → ((d : Disk) → o ≡ Some d → RestsOn s d a b) → Both s a b
+rests_told s a b None is each = subst (λ (x : Option Disk). IfSome x (λ d. RestsOn s d a b)) (sym is) tt
+rests_told s a b (Some d) is each = subst (λ (x : Option Disk). IfSome x (λ y. RestsOn s y a b)) (sym is) (each d refl)
+
+-- each stop within the events that came leaves P
+pub more_leaves : {T E : Type 0} (r : Result T E) (d : Disk) (plan more : List Event) (P : Blocks → Type 0) → IsPlan plan → Stops d plan P → Follows r plan (Some d) (Some (disk_with d more)) → LeavesWithin d.base d.trace more P
+more_leaves r d plan more P planned stops f =
+    let left = run_leaves r d plan (Some (disk_with d more)) P planned stops f in
+    subst (λ (events : List Event). LeavesWithin d.base d.trace events P) (sym (one_run d more left.events left.is)) left.leaves
+
+-- and a block to which the plan writes nothing is as it was
+pub more_spares : {T E : Type 0} (r : Result T E) (d : Disk) (plan more : List Event) (x : ℕ) → written_to x plan ≡ [] → Follows r plan (Some d) (Some (disk_with d more)) → block (now_of (disk_with d more)) x ≡ block (now_of d) x
+more_spares r d plan more x none f =
+    let came = run_came r plan d (Some (disk_with d more)) f in
+    now_same d more x (subst (λ (events : List Event). written_to x events ≡ []) (sym (one_run d more came.events came.is)) (came.spared x none))
+
+-- at Ok the plan came
+pub more_ok : {T E : Type 0} (r : Result T E) (d : Disk) (plan more : List Event) → Follows r plan (Some d) (Some (disk_with d more)) → OnOk r (more ≡ plan)
+more_ok (Ok v) d plan more f = one_run d more plan (f ∙ with_events-some d plan)
+more_ok (Err x) d plan more f = tt
