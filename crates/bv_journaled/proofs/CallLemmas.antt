@@ -25,7 +25,7 @@ use Rattle.bv_journal.proofs.AppendLemmas.{append-stops, append-done}
 use Rattle.bv_journal.proofs.SyncLemmas.{at_rest-sync, at_rest-data}
 use Rattle.bv_journal.proofs.CheckpointLemmas.{checkpoint-stops, checkpoint-done}
 use Rattle.bv_journaled.specs.Kept.{records_at, IsOf, IsFree, KeepsMap, Keeps}
-use Rattle.bv_journaled.proofs.HeldLemmas.{image_whole, kept_held, newest_head}
+use Rattle.bv_journaled.specs.Held.{image_whole, kept_held, newest_head}
 use Rattle.bv_journaled.proofs.QuietLemmas.{map_through, written_other, parts_none, SparesData, ring_spares, checkpoint_spares}
 
 -- ---- runs that write to no data block

@@ -33,20 +33,20 @@ use Rattle.bv_journaled.specs.Kept.{IsKept, KeepsMap}
 
 -- ---- the blobs after changes
 
-no_nodes : (e : ℕ) → 0 ≡ nodes_for e → ⊥
+pub no_nodes : (e : ℕ) → 0 ≡ nodes_for e → ⊥
 no_nodes e is = elim (cases_lt 1 e) [
   | inl some ↦ let t : leb e 1 ≡ false = grind (arith, some) in let z : 0 ≡ 1 + (e - 1 + 5) / 6 = is ∙ ap (λ (x : Bool). cond x 1 (1 + (e - 1 + 5) / 6)) t in omega (arith, z)
   | inr few ↦ let t : leb e 1 ≡ true = grind (arith, few) in let z : 0 ≡ 1 = is ∙ ap (λ (x : Bool). cond x 1 (1 + (e - 1 + 5) / 6)) t in omega (arith, z)
 ]
 
-more_in_front : {A : Type 0} (front back : List A) (b r : A) → Contains (front ++ back) r → Contains (front ++ b ∷ back) r
+pub more_in_front : {A : Type 0} (front back : List A) (b r : A) → Contains (front ++ back) r → Contains (front ++ b ∷ back) r
 more_in_front [] back b r c = Contains-cons b back r c
 more_in_front {A} (x ∷ xs) back b r c = elim (Contains-cons_cases x (xs ++ back) r c) [
   | inl is ↦ subst (λ (y : A). Contains (x ∷ (xs ++ b ∷ back)) y) is (Contains-head x (xs ++ b ∷ back))
   | inr later ↦ Contains-cons x (xs ++ b ∷ back) r (more_in_front xs back b r later)
 ]
 
-one_or_other : {A : Type 0} (front back : List A) (b r : A) → Contains (front ++ b ∷ back) r → (r ≡ b) ⊎ Contains (front ++ back) r
+pub one_or_other : {A : Type 0} (front back : List A) (b r : A) → Contains (front ++ b ∷ back) r → (r ≡ b) ⊎ Contains (front ++ back) r
 one_or_other [] back b r c = elim (Contains-cons_cases b back r c) [ inl is ↦ inl (sym is) | inr later ↦ inr later ]
 one_or_other {A} (x ∷ xs) back b r c = elim (Contains-cons_cases x (xs ++ b ∷ back) r c) [
   | inl is ↦ inr (subst (λ (y : A). Contains (x ∷ (xs ++ back)) y) is (Contains-head x (xs ++ back)))
@@ -75,13 +75,13 @@ of_purge m b r w has c =
     subst (λ (l : List BlobRecord). Contains l r) (sym i.after) (more_in_front i.front i.back b r (subst (λ (l : List BlobRecord). Contains l r) i.before c))
 
 -- a blob after a change that fits was there, or is what it publishes
-of_change : (m : Metadata) (c : Change) (r : BlobRecord) → WellFormed m → Fits m c → Contains (records_of (after_change m c)) r → (c ≡ Publish r) ⊎ Contains (records_of m) r
+pub of_change : (m : Metadata) (c : Change) (r : BlobRecord) → WellFormed m → Fits m c → Contains (records_of (after_change m c)) r → (c ≡ Publish r) ⊎ Contains (records_of m) r
 of_change m (Publish b) r w fit has = elim (of_publish m b r w fit has) [ inl is ↦ inl (ap (λ (x : BlobRecord). Publish x) (sym is)) | inr old ↦ inr old ]
 of_change m (Purge ks es) r w fit has =
     let nodes = subst (λ (x : List ℕ). Contains (records_of (purged m x es)) r) fit.nodes has in
     inr (of_purge m fit.blob r w fit.present (subst (λ (x : List Extent). Contains (records_of (purged m (fit.blob).nodes x)) r) fit.extents nodes))
 
-of_changes : (m : Metadata) (cs : List Change) (r : BlobRecord) → is_well_formed m ≡ true → AllFit m cs → Contains (records_of (after_all m cs)) r → Contains cs (Publish r) ⊎ Contains (records_of m) r
+pub of_changes : (m : Metadata) (cs : List Change) (r : BlobRecord) → is_well_formed m ≡ true → AllFit m cs → Contains (records_of (after_all m cs)) r → Contains cs (Publish r) ⊎ Contains (records_of m) r
 of_changes m [] r formed fit has = inr has
 of_changes m (c ∷ cs) r formed fit has =
     let next : is_well_formed (after_change m c) ≡ true = changes_keep m (c ∷ []) formed (fit.0, tt) in

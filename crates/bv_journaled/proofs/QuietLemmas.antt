@@ -112,7 +112,7 @@ writes_spare g at (bytes ∷ rest) few b =
     written_other at (block_at g b) bytes (writes (at + 1) rest) (λ e. absurd (omega (arith, e, few)))
     ∙ writes_spare g (at + 1) rest (omega (arith, few)) b
 
-info_spares : (g : Geometry) → IsGeometry g → (next : Info) → SparesData g (info_plan g next)
+pub info_spares : (g : Geometry) → IsGeometry g → (next : Info) → SparesData g (info_plan g next)
 info_spares g lawful next b = written_other (info_at g) (block_at g b) (info_bytes next) a_sync (λ e. absurd (omega (arith, e, lawful.journal.from_low)))
 
 pub checkpoint_spares : (g : Geometry) → IsGeometry g → (meta : Blocks) (next : Info) → length meta ≡ meta_blocks g → SparesData g (checkpoint_plan g meta next)

@@ -1,7 +1,7 @@
 -- What a run of the device is to what the store shows.
 use Rattle.std.proofs.Common.{◌≡◌, ◌<◌, ◌≤◌, ℕ, ◌+◌, ◌-◌, List, [], ◌∷◌, ◌++◌, length, take, drop, true, false, Option, Some, None, Result, Ok, Err, refl, ap, sym, ◌∙◌, subst, inl, inr, arith, length-append, length-drop}
 use Rattle.std.proofs.lemmas.List.{take-append-le, drop-append-le}
-use Rattle.std.specs.Prelude.{option_map, IfSome, OnOk}
+use Rattle.std.specs.Prelude.{option_map, IfSome, OnOk, OnErr}
 use Rattle.spec_disk.specs.declared.event.Event.{Event}
 use Rattle.spec_disk.specs.Disk.{Blocks, block, now_after}
 use Rattle.spec_disk.specs.Images.{written_to}
@@ -14,6 +14,7 @@ use Rattle.bv_device.specs.Seen.{Seen, Performs}
 use Rattle.bv_device.proofs.PlanLemmas.{disk_with-nil, disk_with-append, with_events-some, with_events-none, Follows-none}
 use Rattle.bv_journal.specs.Stops.{Stops}
 use Rattle.bv_store.specs.Stored.{Stored, Counts, Grows, SameData, LeavesEither}
+use Rattle.bv_journaled.specs.declared.prepared.Prepared.{Prepared}
 use Rattle.bv_journaled.specs.Since.{began_at, since, calls_since}
 use Rattle.bv_journaled.specs.Standing.{Standing, stored_of, IsStanding, RestsOn, Both}
 use Rattle.bv_journaled.proofs.QuietLemmas.{SparesData}
@@ -41,7 +42,7 @@ cut_since n (e ∷ plan) d new le cut = elim cut [
   | inr more ↦ elim more [
     | inl f ↦ inr (inl (some_since n d (failed_event e ∷ []) new le f))
     | inr on ↦ inr (inr (subst (λ (x : Disk). CutShort plan (Some x) (option_map (since n) new)) (since_with n d (e ∷ []) le)
-      (cut_since n plan (disk_with d (e ∷ [])) new (omega (arith, le, length-append d.trace (e ∷ []))) on)))
+        (cut_since n plan (disk_with d (e ∷ [])) new (omega (arith, le, length-append d.trace (e ∷ []))) on)))
   ]
 ]
 
@@ -94,6 +95,27 @@ module _ {T E : Type 0} (r : Result T E) (plan : List Event) (old new : Standing
   run_grows P each =
       subst (λ (n : ℕ). Grows (stored_of old).told (option_map (since n) new.device.told) P) (sym opened) (grown P old.device.told is.told performs.plan each)
 
+  -- an Ok run has a call for each event of its plan
+  counted : (o : Option Disk) → IfSome o (λ d. length d.trace ≡ old.device.calls_made) → Follows r plan o new.device.told → (v : T) → r ≡ Ok v
+      → calls_since (option_map (since old.opened) new.device.told) (new.device.calls_made - old.opened) ≡ calls_since (option_map (since old.opened) o) (old.device.calls_made - old.opened) + length plan
+  counted None long f v ok =
+      let calls = subst (λ (x : Result T E). OnOk x (new.device.calls_made ≡ old.device.calls_made + length plan)) ok performs.calls.ok in
+      subst (λ (x : Option Disk). calls_since (option_map (since old.opened) x) (new.device.calls_made - old.opened) ≡ old.device.calls_made - old.opened + length plan) (sym (Follows-none r plan new.device.told f)) (omega (arith, calls, is.opened))
+  counted (Some d) long f v ok =
+      let came = run_came r plan d new.device.told f in
+      let le : old.opened ≤ length d.trace = omega (arith, long, is.opened) in
+      let same : came.events ≡ plan = subst (λ (x : Result T E). OnOk x (came.events ≡ plan)) ok came.ok in
+      let long' : length (drop old.opened d.trace ++ came.events) ≡ length (drop old.opened d.trace) + length plan = length-append (drop old.opened d.trace) came.events ∙ ap (λ (p : List Event). length (drop old.opened d.trace) + length p) same in
+      subst (λ (x : Option Disk). calls_since x (new.device.calls_made - old.opened) ≡ length (drop old.opened d.trace) + length plan) (sym (some_since old.opened d came.events new.device.told le came.is)) long'
+
+  pub run_calls : (v : T) → r ≡ Ok v → (stored_of new).calls ≡ (stored_of old).calls + length plan
+  run_calls v ok =
+      subst (λ (n : ℕ). calls_since (option_map (since n) new.device.told) (new.device.calls_made - n) ≡ (stored_of old).calls + length plan) (sym opened) (counted old.device.told is.told performs.plan v ok)
+
+pub on_ok : {T E : Type 0} (r : Result T E) (P : Type 0) → ((v : T) → r ≡ Ok v → P) → OnOk r P
+on_ok (Ok v) P h = h v refl
+on_ok (Err x) P h = tt
+
 -- where the disk told keeps something, a run keeps what its plan's stops leave
 pub told_rests : (s : Standing) (d : Disk) (a b : Map) → (stored_of s).told ≡ Some d → Both s a b → RestsOn s d a b
 told_rests s d a b is both = subst (λ (o : Option Disk). IfSome o (λ x. RestsOn s x a b)) is both
@@ -118,3 +140,49 @@ more_spares r d plan more x none f =
 pub more_ok : {T E : Type 0} (r : Result T E) (d : Disk) (plan more : List Event) → Follows r plan (Some d) (Some (disk_with d more)) → OnOk r (more ≡ plan)
 more_ok (Ok v) d plan more f = one_run d more plan (f ∙ with_events-some d plan)
 more_ok (Err x) d plan more f = tt
+
+-- what had told goes on to tell
+pub grown_from : (old new : Option Disk) (P : Disk → List Event → Type 0) → Grows old new P → (d' : Disk) → new ≡ Some d' → (d : Disk) × (more : List Event) × (old ≡ Some d) × (d' ≡ disk_with d more) × P d more
+grown_from None new P h d' e = absurd (none (sym h ∙ e))
+  where
+    none : {x : Disk} → None ≡ Some x → ⊥
+    none e = cc
+grown_from (Some d) new P h d' e = (d, h.0, refl, one (sym e ∙ h.1), h.2)
+  where
+    one : {x y : Disk} → Some x ≡ Some y → x ≡ y
+    one e = cc
+
+-- an Ok run that tells told before, and its plan came
+pub ok_from : {T E : Type 0} (r : Result T E) (v : T) (plan : List Event) (old new : Standing) → IsStanding old → new.meta.geometry ≡ old.meta.geometry → new.opened ≡ old.opened → Performs r plan old.device new.device
+    → r ≡ Ok v → (d' : Disk) → (stored_of new).told ≡ Some d' → (d : Disk) × ((stored_of old).told ≡ Some d) × (d' ≡ disk_with d plan)
+ok_from {T} {E} r v plan old new is geometry opened performs ok d' e =
+    let at : Grows (stored_of old).told (stored_of new).told (λ d more. OnOk r (more ≡ plan)) =
+    run_grows r plan old new is geometry opened performs (λ d more. OnOk r (more ≡ plan)) (λ d more told f. more_ok r d plan more f) in
+    let from = grown_from (stored_of old).told (stored_of new).told (λ d more. OnOk r (more ≡ plan)) at d' e in
+    let same : from.1 ≡ plan = subst (λ (x : Result T E). OnOk x (from.1 ≡ plan)) ok from.4 in
+    (from.0, from.2, from.3 ∙ ap (disk_with from.0) same)
+
+-- what an Ok answer says, from what it was said to say
+pub on_ok_from : {T E : Type 0} (r : Result T E) (P Q : Type 0) → OnOk r P → (P → Q) → OnOk r Q
+on_ok_from (Ok v) P Q p f = f p
+on_ok_from (Err x) P Q p f = tt
+
+pub on_ok_at : {T E : Type 0} (r : Result T E) (v : T) (P : Type 0) → r ≡ Ok v → OnOk r P → P
+on_ok_at {T} {E} r v P ok p = subst (λ (x : Result T E). OnOk x P) ok p
+
+-- what follows from either answer
+pub either : {T E : Type 0} (r : Result T E) (P Q R : Type 0) → OnOk r P → OnErr r Q → (P → R) → (Q → R) → R
+either (Ok v) P Q R p q f h = f p
+either (Err x) P Q R p q f h = h q
+
+-- what is planned is no matter of the disk
+pub both_planned : (s : Standing) (p : Option Prepared) (a b : Map) → Both s a b → Both (record s { planned = p }) a b
+both_planned s p a b both =
+    let new : Standing = record s { planned = p } in
+    rests_told new a b (stored_of new).told refl (λ d e.
+    let rests = told_rests s d a b e both in
+    record { info = rests.info; entries = rests.entries; more = rests.more; durable = rests.durable; keeps = rests.keeps; newest = rests.newest; stands = rests.stands; older = rests.older })
+
+pub on_err_from : {T E : Type 0} (r : Result T E) (P Q : Type 0) → OnErr r P → (P → Q) → OnErr r Q
+on_err_from (Ok v) P Q p f = tt
+on_err_from (Err x) P Q p f = f p

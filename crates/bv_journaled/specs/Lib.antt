@@ -2,3 +2,6 @@
 pub mod Kept
 pub mod Since
 pub mod Standing
+pub mod Held
+pub mod StoreLaws
+pub mod Entering

@@ -1,5 +1,5 @@
 -- A store on a device as contracts see it (this project's profile).
-use Rattle.std.specs.Prelude.{◌≡◌, ◌≤◌, ◌-◌, ◌⊎◌, ℕ, List, [], ◌∷◌, ◌++◌, length, map, true, All, Contains, Option, Some, None, option_map, IfSome, IsSomeAnd}
+use Rattle.std.specs.Prelude.{◌≡◌, ◌≤◌, ◌+◌, ◌-◌, ◌⊎◌, ℕ, List, [], ◌∷◌, ◌++◌, length, map, true, All, Contains, Option, Some, None, option_map, IfSome, IsSomeAnd}
 use Rattle.std.specs.BTreeMap.{insert_entry}
 use Rattle.spec_tree.specs.declared.Digest.{Digest}
 use Rattle.spec_tree.specs.Order.{digest_cmp}
@@ -13,7 +13,7 @@ use Rattle.spec_record.specs.EntryBlocks.{entry_blocks}
 use Rattle.spec_image.specs.Blobs.{value_of}
 use Rattle.spec_image.specs.Chain.{BlobRecord}
 use Rattle.spec_image.specs.Stored.{blocks_of}
-use Rattle.spec_image.specs.WellFormed.{is_well_formed}
+use Rattle.spec_image.specs.WellFormed.{records_of, is_well_formed}
 use Rattle.spec_meta.specs.Blocks.{metadata_at}
 use Rattle.spec_meta.specs.Change.{Change as MetaChange, Publish as Published, after_all, log_of_all}
 use Rattle.spec_meta.specs.Fits.{AllFit}
@@ -21,7 +21,7 @@ use Rattle.spec_rest.specs.Rest.{Map}
 use Rattle.bv_device.specs.Told.{Disk}
 use Rattle.bv_device.specs.Seen.{Seen}
 use Rattle.bv_journal.specs.Holds.{entries_of, with_entry}
-use Rattle.bv_ring.specs.Cursor.{Cursor, StandsBehind}
+use Rattle.bv_ring.specs.Cursor.{Cursor, IsCursor, StandsBehind}
 use Rattle.bv_store.specs.declared.publication.Publication.{Publication}
 use Rattle.bv_store.specs.Stored.{Stored, Entry as Asked, blocks_in, entry_changes, placed_after, nodes_taken}
 use Rattle.bv_txn.specs.declared.change.Change.{Change}
@@ -114,10 +114,14 @@ pub record IsPrepared (g : Geometry) (meta : Blocks) (number : ℕ) (p : Prepare
   pub blocks : p.blocks.items ≡ entry_blocks p.entry
   pub logged : log_of_all (metadata_at g meta) changes ≡ entry_changes (map_at g meta) (asked p)
   pub published : (r : BlobRecord) → Contains changes (Published r) → IsSomeAnd p.published (IsRecordOf r)
+  pub placed : placed_of (records_of (after_all (metadata_at g meta) changes)) ≡ placed_after (placed_at g meta) (asked p)
+  pub nodes : (after_all (metadata_at g meta) changes).super.used_nodes
+      ≤ (metadata_at g meta).super.used_nodes + nodes_taken p.published
 
 -- what is true of every store
 pub record IsStanding (s : Standing) : Type 0 where
   pub lawful : IsGeometry s.meta.geometry
+  pub cursor : IsCursor s.cursor
   pub same : s.cursor.geometry ≡ s.meta.geometry
   pub total : total_blocks s.meta.geometry ≤ s.device.block_count
   pub count : length s.meta.blocks ≡ meta_blocks s.meta.geometry

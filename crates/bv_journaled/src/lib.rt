@@ -2,8 +2,13 @@
 //! the blobs.
 #![tactic(auto)]
 
+mod entering;
+mod keeping;
 mod laws;
+mod lookup;
+mod places;
 mod prepared;
+mod preparing;
 mod store;
 
 pub use laws::{

@@ -1,13 +1,24 @@
 //! A store on a device.
 
-ghost use Rattle.std.specs.Prelude.{◌≡◌, ◌<◌, [], OnOk, OnErr};
-ghost use Rattle.spec_record.specs.Geometry.{block_at};
+ghost use Rattle.std.specs.Prelude.{◌≡◌, ◌<◌, ◌≤◌, [], true, None, Some, OnOk, OnErr, IfSome, IsTrue};
+ghost use Rattle.spec_disk.specs.Disk.{block, reads_right};
+ghost use Rattle.spec_record.specs.Geometry.{block_at, total_blocks};
+ghost use Rattle.spec_meta.specs.Blocks.{metadata_at};
+ghost use Rattle.bv_device.specs.Told.{now_of};
 ghost use Rattle.bv_device.specs.Plan.{a_write, a_sync};
+ghost use Rattle.bv_device.specs.Reading.{OnlyReads};
 ghost use Rattle.bv_device.specs.Seen.{Performs};
 ghost use Rattle.bv_journal.specs.Plans.{checkpoint_plan};
-ghost use Rattle.bv_ring.specs.Cursor.{emptied, info_at_cursor};
+ghost use Rattle.bv_ring.specs.Cursor.{IsCursor, StandsBehind, emptied, info_at_cursor};
+ghost use Rattle.bv_journaled.specs.Standing.{IsPrepared, IsStanding, Both, stored_of};
+ghost use Rattle.bv_journaled.specs.Kept.{KeepsMap, map_at};
+ghost use Rattle.bv_journal.specs.Rests.{AtRest};
+ghost use Rattle.bv_txn.specs.Metas.{IsLawful};
+ghost use Rattle.spec_record.specs.declared.info.Info.{Info};
+ghost use Rattle.spec_image.specs.WellFormed.{is_well_formed};
 
 use crate::prepared::Prepared;
+use bv_bytes::Field;
 use bv_device::{Block, Device, Failed};
 use bv_ring::Ring;
 use bv_txn::{Change, Meta};
@@ -55,11 +66,82 @@ impl<D: Device> Model for JournaledStore<D> {
 }
 
 impl<D: Device> JournaledStore<D> {
+    /// The store of a volume with an empty journal, on a device that had made so many writes and
+    /// syncs when the mount began. Where what the device tells since then has that journal at rest
+    /// and each blob kept, the store can go on from the map of the metadata.
+    pub fn new(alloc: Global, dev: D, opened: u64, meta: Meta, ring: Ring) -> JournaledStore<D>
+        requires lawful { IsLawful meta.geometry meta.blocks }
+        requires cursor { IsCursor ring }
+        requires same { ring.geometry ≡ meta.geometry }
+        requires total { total_blocks meta.geometry ≤ (D.seen dev).block_count }
+        requires formed { is_well_formed (metadata_at meta.geometry meta.blocks) ≡ true }
+        requires opened { opened ≤ (D.seen dev).calls_made }
+        ensures value { result ≡ record {
+          device = D.seen dev;
+          opened = opened;
+          meta = meta;
+          cursor = ring;
+          gone = [];
+          planned = None;
+        } }
+        ensures both { IfSome (stored_of result).told (λ d. (i : Info)
+            → AtRest meta.geometry i [] None meta.blocks d → StandsBehind ring i []
+            → KeepsMap meta.geometry d meta.blocks (map_at meta.geometry meta.blocks)
+            → Both result (map_at meta.geometry meta.blocks) (map_at meta.geometry meta.blocks)) }
+    {
+        JournaledStore {
+            dev,
+            opened,
+            meta,
+            ring,
+            gone: Vec::new(alloc),
+            planned: None,
+        }
+    }
+
+    /// Reads a data block.
+    pub(crate) fn read_data(&mut self, at: u64, into: &mut Block) -> Result<(), Failed>
+        requires { at < self.old.meta.geometry.blocks }
+        ensures ok { OnOk result (IfSome self.old.device.told (λ d.
+            IsTrue (reads_right d.trace (block_at self.old.meta.geometry at))
+            → into.new ≡ block (now_of d) (block_at self.old.meta.geometry at))) }
+        ensures reads { OnlyReads result self.old.device self.new.device }
+        ensures standing { IsStanding self.old }
+        ensures rest { self.new ≡ record self.old { device = self.new.device } }
+    {
+        let place = self.meta.geometry().block_at(at);
+        self.dev.read(place, into)
+    }
+
+    /// The nodes of the blobs of the map.
+    pub(crate) fn used(&self) -> u64
+        ensures { result ≡ (metadata_at self.now.meta.geometry self.now.meta.blocks).super.used_nodes }
+    {
+        Field::<80, 8>::get(&self.meta.blocks()[0])
+    }
+
+    /// Gives up the entry that was planned.
+    pub(crate) fn forget(&mut self)
+        ensures { self.new ≡ record self.old { planned = None } }
+    {
+        self.planned = None;
+    }
+
+    /// Plans an entry that is prepared for this metadata and number.
+    pub(crate) fn remember(&mut self, prepared: Prepared)
+        requires { IsPrepared self.old.meta.geometry self.old.meta.blocks self.old.cursor.number
+            prepared }
+        ensures { self.new ≡ record self.old { planned = Some prepared } }
+    {
+        self.planned = Some(prepared);
+    }
+
     /// Writes a data block.
     pub(crate) fn write_data(&mut self, at: u64, from: &Block) -> Result<(), Failed>
         requires { at < self.old.meta.geometry.blocks }
         ensures performs { Performs result (a_write (block_at self.old.meta.geometry at) from.now)
             self.old.device self.new.device }
+        ensures standing { IsStanding self.old }
         ensures rest { self.new ≡ record self.old { device = self.new.device } }
     {
         let place = self.meta.geometry().block_at(at);
@@ -69,6 +151,7 @@ impl<D: Device> JournaledStore<D> {
     /// Makes all writes so far last. Then nothing that the last entry purged is held any more.
     pub(crate) fn make_last(&mut self) -> Result<(), Failed>
         ensures performs { Performs result a_sync self.old.device self.new.device }
+        ensures standing { IsStanding self.old }
         ensures ok { OnOk result
             (self.new ≡ record self.old { device = self.new.device; gone = [] }) }
         ensures err { OnErr result (self.new ≡ record self.old { device = self.new.device }) }
@@ -83,6 +166,7 @@ impl<D: Device> JournaledStore<D> {
         ensures performs { Performs result
             (checkpoint_plan self.old.meta.geometry self.old.meta.blocks
             (info_at_cursor self.old.cursor)) self.old.device self.new.device }
+        ensures standing { IsStanding self.old }
         ensures ok { OnOk result (self.new ≡ record self.old {
           device = self.new.device;
           cursor = emptied self.old.cursor;
