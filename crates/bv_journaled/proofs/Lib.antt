@@ -15,3 +15,5 @@ pub mod CommitRows
 pub mod LookupLemmas
 pub mod OpeningLemmas
 pub mod PlaceLemmas
+pub mod RecoveryLemmas
+pub mod PurgingLemmas

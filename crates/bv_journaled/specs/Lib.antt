@@ -5,3 +5,4 @@ pub mod Standing
 pub mod Held
 pub mod StoreLaws
 pub mod Entering
+pub mod Purging

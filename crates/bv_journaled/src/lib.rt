@@ -6,6 +6,7 @@ mod entering;
 mod keeping;
 mod laws;
 mod lookup;
+mod opening;
 mod places;
 mod prepared;
 mod preparing;
@@ -17,4 +18,5 @@ pub use laws::{
     blocks_that_have_a_blob_are_whole_and_sound, changes_that_fit_keep_their_map,
     what_is_kept_is_held,
 };
+pub use opening::{a_recovery_keeps_each_blob, purges_of_roots_are_those_of_the_log};
 pub use store::JournaledStore;
