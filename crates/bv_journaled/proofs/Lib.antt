@@ -17,3 +17,4 @@ pub mod OpeningLemmas
 pub mod PlaceLemmas
 pub mod RecoveryLemmas
 pub mod PurgingLemmas
+pub mod LookAfterLemmas

@@ -107,3 +107,6 @@ purges_go m (root ∷ roots) formed =
       placed = ap (λ (x : Metadata). placed_of (records_of x)) joined ∙ rest.placed ∙ ap (λ (es : List (Digest × List ℕ)). placed_without es roots) one.placed;
       nodes = let a : (after_all m (first ++ purge_changes m1 roots)).super.used_nodes ≡ (after_all m1 (purge_changes m1 roots)).super.used_nodes = ap (λ (x : Metadata). x.super.used_nodes) joined in omega (arith, a, rest.nodes, one.nodes);
     }
+
+pub one_formed : (m : Metadata) (root : Digest) → is_well_formed m ≡ true → is_well_formed (after_all m (purge_change (blob_in m root))) ≡ true
+one_formed m root formed = (one_purge m root (blob_in m root) formed refl).formed

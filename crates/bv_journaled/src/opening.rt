@@ -1,6 +1,9 @@
 //! Laws of a mount: what a recovery keeps, and what purges make.
 
-ghost use Rattle.std.specs.Prelude.{◌≡◌, ◌<◌, ◌≤◌, ℕ, List, [], true, All, Contains};
+ghost use Rattle.std.specs.Prelude.{◌≡◌, ◌<◌, ◌≤◌, ℕ, List, [], ◌∷◌, ◌++◌, true, None, if◌then◌else◌, All, Contains};
+ghost use Rattle.std.specs.List.{list_any};
+ghost use Rattle.spec_tree.specs.Order.{same_digest};
+ghost use Rattle.spec_image.specs.Volume.{blob_in};
 ghost use Rattle.spec_tree.specs.declared.Digest.{Digest};
 ghost use Rattle.spec_tree.specs.Tree.{root_of};
 ghost use Rattle.spec_disk.specs.Disk.{Blocks};
@@ -21,7 +24,7 @@ ghost use Rattle.bv_device.specs.Told.{disk_with};
 ghost use Rattle.bv_journal.specs.Plans.{recover_plan};
 ghost use Rattle.bv_store.specs.Stored.{placed_without};
 ghost use Rattle.bv_journaled.specs.Kept.{records_at, map_at, KeepsMap};
-ghost use Rattle.bv_journaled.specs.Purging.{purge_changes};
+ghost use Rattle.bv_journaled.specs.Purging.{purge_change, purge_changes};
 ghost use Rattle.bv_journaled.specs.Standing.{placed_of};
 
 /// A recovery writes to no data block: a disk that was opened as an image keeps, over a recovery of
@@ -48,4 +51,9 @@ pub fn purges_of_roots_are_those_of_the_log()
         ≡ placed_without (placed_of (records_of m)) roots }
     ensures nodes { (m : Metadata) (roots : List Digest) → is_well_formed m ≡ true
         → (after_all m (purge_changes m roots)).super.used_nodes ≤ m.super.used_nodes }
+    // a root more has the purge of its blob, where no root before it has purged it
+    ensures next { (m : Metadata) (roots : List Digest) (root : Digest)
+        → is_well_formed m ≡ true → purge_changes m (roots ++ root ∷ [])
+        ≡ purge_changes m roots ++ purge_change
+        (if list_any (same_digest root) roots then None else blob_in m root) }
 {}
