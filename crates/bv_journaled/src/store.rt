@@ -3,10 +3,10 @@
 ghost use Rattle.std.specs.Prelude.{◌≡◌, ◌<◌, ◌≤◌, [], true, None, Some, OnOk, OnErr, IfSome, IsTrue};
 ghost use Rattle.spec_disk.specs.Disk.{block, reads_right};
 ghost use Rattle.spec_record.specs.Geometry.{block_at, total_blocks};
+ghost use Rattle.spec_faults.specs.Faults.{CountsFaults};
 ghost use Rattle.spec_meta.specs.Blocks.{metadata_at};
 ghost use Rattle.bv_device.specs.Told.{now_of};
 ghost use Rattle.bv_device.specs.Plan.{a_write, a_sync};
-ghost use Rattle.bv_device.specs.Reading.{OnlyReads};
 ghost use Rattle.bv_device.specs.Seen.{Performs};
 ghost use Rattle.bv_journal.specs.Plans.{checkpoint_plan};
 ghost use Rattle.bv_ring.specs.Cursor.{IsCursor, StandsBehind, emptied, info_at_cursor};
@@ -105,7 +105,11 @@ impl<D: Device> JournaledStore<D> {
         ensures ok { OnOk result (IfSome self.old.device.told (λ d.
             IsTrue (reads_right d.trace (block_at self.old.meta.geometry at))
             → into.new ≡ block (now_of d) (block_at self.old.meta.geometry at))) }
-        ensures reads { OnlyReads result self.old.device self.new.device }
+        ensures told { self.new.device.told ≡ self.old.device.told }
+        ensures blocks { self.new.device.block_count ≡ self.old.device.block_count }
+        ensures calls { self.new.device.calls_made ≡ self.old.device.calls_made }
+        ensures faults { CountsFaults self.old.device.fault_count self.new.device.fault_count
+            result }
         ensures standing { IsStanding self.old }
         ensures rest { self.new ≡ record self.old { device = self.new.device } }
     {

@@ -13,4 +13,4 @@ returns-clause-ok g c =
 
 pub returns-clause-both : goal.returns-clause-both
 returns-clause-both g c a b both =
-    subst (λ (n : Standing). Both n a b) (sym c.read_data.ensures.rest) (read_both c.args.self.now c.read_data.new.self.device c.read_data.ensures.reads.told a b both)
+    subst (λ (n : Standing). Both n a b) (sym c.read_data.ensures.rest) (read_both c.args.self.now c.read_data.new.self.device c.read_data.ensures.told a b both)
