@@ -15,6 +15,7 @@ pub mod CommitRows
 pub mod LookupLemmas
 pub mod OpeningLemmas
 pub mod PlaceLemmas
+pub mod NodeLemmas
 pub mod RecoveryLemmas
 pub mod PurgingLemmas
 pub mod LookAfterLemmas

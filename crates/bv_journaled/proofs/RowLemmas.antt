@@ -7,7 +7,8 @@ use Rattle.spec_disk.specs.Disk.{Blocks, block, now_after}
 use Rattle.spec_disk.specs.Images.{written_to}
 use Rattle.spec_record.specs.declared.geometry.Geometry.{Geometry}
 use Rattle.spec_record.specs.Geometry.{block_at}
-use Rattle.spec_rest.specs.Rest.{Map, LeavesWithin, HoldsEither}
+use Rattle.spec_image.specs.Leaves.{LeavesWithin}
+use Rattle.spec_rest.specs.Rest.{Map, HoldsEither}
 use Rattle.bv_device.specs.Told.{Disk, disk_with, with_event, now_of}
 use Rattle.bv_device.specs.Plan.{IsPlan, failed_event, with_events, CutShort, Follows, CountsCalls}
 use Rattle.bv_device.specs.Seen.{Seen, Performs}

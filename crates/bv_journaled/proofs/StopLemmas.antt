@@ -8,7 +8,7 @@ use Rattle.spec_disk.specs.Images.{IsImage}
 use Rattle.spec_record.specs.declared.geometry.Geometry.{Geometry}
 use Rattle.spec_record.specs.declared.info.Info.{Info}
 use Rattle.spec_image.specs.Chance.{NoChance}
-use Rattle.spec_rest.specs.Rest.{LeavesWithin}
+use Rattle.spec_image.specs.Leaves.{LeavesWithin}
 use Rattle.bv_device.specs.Told.{Disk, disk_with}
 use Rattle.bv_device.specs.Plan.{a_sync, writes, IsPlan, Follows}
 use Rattle.bv_device.proofs.PlanLemmas.{IsPlan-append, IsPlan-writes}

@@ -34,7 +34,7 @@ use Rattle.bv_txn.proofs.MetaLemmas.{counts_spelled}
 use Rattle.bv_device.specs.Told.{Disk, MayLeave}
 use Rattle.bv_journal.specs.Holds.{HoldsMeta, with_entry}
 use Rattle.bv_journal.specs.Rests.{IsHead, AtRest, synced}
-use Rattle.bv_journal.specs.Stops.{LeavesFair}
+use Rattle.spec_image.specs.Leaves.{Leaves}
 use Rattle.bv_journal.proofs.AppendLemmas.{at_rest-held}
 use Rattle.bv_journaled.specs.Kept.{records_at, map_at, IsKept, KeepsMap, Keeps}
 
@@ -107,7 +107,7 @@ newest_head g i es None meta d a = a.rests.durable.meta_head
 newest_head g i es (Some e) meta d a = a.next.head
 
 -- each stop of a disk at rest leaves one of the two maps
-pub kept_held : (g : Geometry) (i : Info) (es : List Entry) (more : Option Entry) (meta : Blocks) (d : Disk) (a b : Map) → Keeps g i es more meta d a b → LeavesFair d (HoldsEither a b)
+pub kept_held : (g : Geometry) (i : Info) (es : List Entry) (more : Option Entry) (meta : Blocks) (d : Disk) (a b : Map) → Keeps g i es more meta d a b → Leaves d.base d.trace (HoldsEither a b)
 kept_held g i es more meta d a b k j left fair =
     elim (at_rest-held g i es more meta d k.journal j left fair) [
       | inl old ↦ inl (image_whole g d meta j a old.holds (k.journal.rests.durable.meta_head) left k.durable)

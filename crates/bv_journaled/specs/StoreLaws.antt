@@ -1,7 +1,8 @@
 -- The laws of the store.
 use Rattle.std.proofs.Common.{◌≡◌, ℕ, ◌-◌, length, Option, Some, None, refl}
 use Rattle.std.specs.Prelude.{option_map, IfSome}
-use Rattle.spec_rest.specs.Rest.{Map, HoldsEither, Leaves}
+use Rattle.spec_image.specs.Leaves.{Leaves}
+use Rattle.spec_rest.specs.Rest.{Map, HoldsEither}
 use Rattle.bv_device.specs.Told.{Disk}
 use Rattle.bv_journaled.specs.Since.{since, calls_since}
 use Rattle.bv_journaled.specs.Standing.{Standing, stored_of, RestsOn, Both}

@@ -119,7 +119,9 @@ impl<D: Device> JournaledStore<D> {
 
     /// The nodes of the blobs of the map.
     pub(crate) fn used(&self) -> u64
-        ensures { result ≡ (metadata_at self.now.meta.geometry self.now.meta.blocks).super.used_nodes }
+        ensures value { result
+            ≡ (metadata_at self.now.meta.geometry self.now.meta.blocks).super.used_nodes }
+        ensures standing { IsStanding self.now }
     {
         Field::<80, 8>::get(&self.meta.blocks()[0])
     }

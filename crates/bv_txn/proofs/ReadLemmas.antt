@@ -30,11 +30,11 @@ few_extents blocks [] all = omega arith
 few_extents blocks (e ∷ es) all = omega (arith, (ranges blocks e all.0).1, lengths_more e es, few_extents blocks es all.1)
 
 -- the counts of an inode that passed
-record CountsPassed (i : Inode) : Type 0 where
+pub record CountsPassed (i : Inode) : Type 0 where
   pub blocks : i.blocks ≤ 65535
   pub extents : i.extents ≤ i.blocks
 
-counts_passed : (i : Inode) → check_counts i ≡ Ok tt → CountsPassed i
+pub counts_passed : (i : Inode) → check_counts i ≡ Ok tt → CountsPassed i
 unfolding check_counts
 counts_passed i e =
     let need : ℕ = need_of i.version i.size in
@@ -47,7 +47,7 @@ counts_passed i e =
     }
 
 -- a walk has as many nodes as it was to have
-walk_long : (ns : Nodes) (blocks version n left previous link : ℕ) (r : List Extent × List ℕ) → walk ns blocks version n left previous link ≡ Ok r → length r.1 ≡ n
+pub walk_long : (ns : Nodes) (blocks version n left previous link : ℕ) (r : List Extent × List ℕ) → walk ns blocks version n left previous link ≡ Ok r → length r.1 ≡ n
 unfolding walk
 walk_long ns blocks version zero left previous link r e =
     let t = chosen (eqb link no_node) (Ok ([], [])) (faults.BadLink previous) r e in
