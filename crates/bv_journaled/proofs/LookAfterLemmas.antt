@@ -1,6 +1,6 @@
 -- What is found after purges, and one purge more.
-use Rattle.std.proofs.Common.{◌≡◌, ◌≤◌, ℕ, ◌+◌, List, [], ◌∷◌, ◌++◌, length, take, Bool, true, false, cond, ◌||◌, Option, Some, None, refl, ap, sym, ◌∙◌, subst, inl, inr, arith}
-use Rattle.std.proofs.lemmas.List.{append_assoc, append-nil}
+use Rattle.std.proofs.Common.{◌≡◌, ◌<◌, ◌≤◌, ℕ, ◌+◌, List, [], ◌∷◌, ◌++◌, length, take, get_or, Bool, true, false, cond, ◌||◌, Option, Some, None, refl, ap, sym, ◌∙◌, subst, inl, inr, arith}
+use Rattle.std.proofs.lemmas.List.{append_assoc, append-nil, take_more}
 use Rattle.std.specs.Prelude.{find}
 use Rattle.std.specs.List.{list_any}
 use Rattle.spec_tree.specs.declared.Digest.{Digest}
@@ -73,3 +73,12 @@ one_more m (q ∷ roots) root =
 pub next_purge : (m : Metadata) (roots : List Digest) (root : Digest) → is_well_formed m ≡ true
     → purge_changes m (roots ++ root ∷ []) ≡ purge_changes m roots ++ purge_change (cond (list_any (same_digest root) roots) None (blob_in m root))
 next_purge m roots root formed = one_more m roots root ∙ ap (λ (o : Option BlobRecord). purge_changes m roots ++ purge_change o) (found_after m roots root formed)
+
+-- the purges of the roots up to one, with that of the one itself
+pub purges_up_to : (m : Metadata) (roots : List Digest) (i : ℕ) (d : Digest) (before after : List Change) → is_well_formed m ≡ true → i < length roots → before ≡ purge_changes m (take i roots)
+    → after ≡ before ++ purge_change (cond (list_any (same_digest (get_or roots i d)) (take i roots)) None (blob_in m (get_or roots i d)))
+    → after ≡ purge_changes m (take (i + 1) roots)
+purges_up_to m roots i d before after formed within was is =
+    let root : Digest = get_or roots i d in
+    let more : List Change = purge_change (cond (list_any (same_digest root) (take i roots)) None (blob_in m root)) in
+    is ∙ ap (λ (l : List Change). l ++ more) was ∙ sym (next_purge m (take i roots) root formed) ∙ ap (purge_changes m) (sym (take_more roots i d within))

@@ -10,6 +10,7 @@ mod opening;
 mod places;
 mod prepared;
 mod preparing;
+mod purging;
 mod store;
 
 pub use laws::{
