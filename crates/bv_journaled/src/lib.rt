@@ -2,6 +2,7 @@
 //! the blobs.
 #![tactic(auto)]
 
+mod drawing;
 mod entering;
 mod keeping;
 mod laws;
