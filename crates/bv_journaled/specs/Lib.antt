@@ -6,3 +6,4 @@ pub mod Held
 pub mod StoreLaws
 pub mod Entering
 pub mod Purging
+pub mod Publishing
