@@ -19,3 +19,5 @@ pub mod NodeLemmas
 pub mod RecoveryLemmas
 pub mod PurgingLemmas
 pub mod LookAfterLemmas
+pub mod MakingLemmas
+pub mod PreparedLemmas

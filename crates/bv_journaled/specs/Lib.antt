@@ -7,3 +7,4 @@ pub mod StoreLaws
 pub mod Entering
 pub mod Purging
 pub mod Publishing
+pub mod Preparing

@@ -1,29 +1,64 @@
 //! An entry prepared: its changes, its blocks, and the memory for both.
 
-ghost use Rattle.std.specs.Prelude.{◌≡◌, IfOk};
+ghost use Rattle.std.specs.Prelude.{◌≡◌, ◌<◌, ◌^◌, true, map, IfOk};
+ghost use Rattle.spec_image.specs.WellFormed.{is_well_formed};
+ghost use Rattle.bv_txn.specs.Changes.{change_of};
+ghost use Rattle.bv_txn.specs.Metas.{metadata_of};
+ghost use Rattle.bv_journaled.specs.Preparing.{Makes};
 ghost use Rattle.bv_journaled.specs.Standing.{IsPrepared, asked};
 
+use crate::drawing::draw_up;
 use crate::prepared::Prepared;
+use crate::purging::purges;
 use crate::store::JournaledStore;
 use bv_device::Device;
 use bv_store::Publication;
+use bv_txn::{Change, Meta};
 use spec_tree::Digest;
 use std::alloc::{AllocError, Global};
 
+/// The changes that purge these roots and then publish this. A publication isn't planned yet: the
+/// answer is that there is no memory.
+fn changes_for(
+    alloc: Global,
+    meta: &Meta,
+    purged: &[Digest],
+    published: &Option<Publication>,
+) -> Result<Vec<Change>, AllocError>
+    requires { is_well_formed (metadata_of meta.now) ≡ true }
+    ensures { IfOk result (λ changes. Makes (metadata_of meta.now)
+        (record { purged = purged.now; published = published.now })
+        (map change_of changes.items)) }
+{
+    match published {
+        None => purges(alloc, meta, purged),
+        Some(_) => Err(AllocError),
+    }
+}
+
 impl<D: Device> JournaledStore<D> {
-    /// The entry that purges these roots and publishes this. It isn't built yet: it answers that
-    /// there is no memory, so no entry is planned.
+    /// The entry that purges these roots and then publishes this.
     pub(crate) fn prepare(
         &self,
-        _alloc: Global,
-        _purged: &[Digest],
-        _published: Option<Publication>,
+        alloc: Global,
+        purged: &[Digest],
+        published: Option<Publication>,
     ) -> Result<Prepared, AllocError>
+        requires number { self.now.cursor.number < 2 ^ 62 }
         ensures fits { IfOk result (IsPrepared self.now.meta.geometry self.now.meta.blocks
             self.now.cursor.number) }
         ensures asked { IfOk result (λ p.
-            asked p ≡ record { purged = _purged.now; published = _published }) }
+            asked p ≡ record { purged = purged.now; published = published }) }
     {
-        Err(AllocError)
+        let changes = changes_for(alloc, &self.meta, purged, &published)?;
+        let (entry, blocks) = draw_up(alloc, &self.meta, self.ring.next(), &changes)?;
+        let purged = Vec::from_slice(alloc, purged)?;
+        Ok(Prepared {
+            purged,
+            published,
+            changes,
+            entry,
+            blocks,
+        })
     }
 }
