@@ -21,3 +21,4 @@ pub mod PurgingLemmas
 pub mod LookAfterLemmas
 pub mod MakingLemmas
 pub mod PreparedLemmas
+pub mod FreeingLemmas

@@ -4,6 +4,7 @@
 
 mod drawing;
 mod entering;
+mod freeing;
 mod keeping;
 mod laws;
 mod lookup;

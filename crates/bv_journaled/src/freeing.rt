@@ -1,0 +1,48 @@
+//! Free nodes, for a blob that is published.
+
+ghost use Rattle.std.specs.Prelude.{◌≡◌, ◌≤◌, ◌<◌, ◌+◌, true, IfOk};
+ghost use Rattle.spec_image.specs.WellFormed.{is_well_formed};
+ghost use Rattle.spec_meta.proofs.Frame.{is_free as reads_free};
+ghost use Rattle.bv_txn.specs.Metas.{metadata_of};
+ghost use Rattle.bv_journaled.specs.Publishing.{AreFree};
+
+use bv_node::{Node, NodeFault, read_node};
+use bv_txn::Meta;
+use std::alloc::{AllocError, Global};
+
+/// What a node reads as.
+fn node_at(meta: &Meta, node: u64) -> Result<Node, NodeFault>
+    requires { node < meta.now.geometry.nodes }
+    ensures { result ≡ (metadata_of meta.now).nodes.read node }
+{
+    let geometry = meta.geometry();
+    let block = &meta.blocks()[(1 + geometry.bitmap() + node / 128) as usize];
+    let place = &block.as_chunks::<64>().0[(node % 128) as usize];
+    read_node(place, geometry.version)
+}
+
+/// Whether a node is free.
+fn is_free(meta: &Meta, node: u64) -> bool
+    requires { node < meta.now.geometry.nodes }
+    ensures { result ≡ reads_free ((metadata_of meta.now).nodes.read node) }
+{
+    matches!(node_at(meta, node), Ok(Node::Free))
+}
+
+/// The first free nodes, in order: so many.
+pub(crate) fn free_nodes(alloc: Global, meta: &Meta, count: u64) -> Result<Vec<u32>, AllocError>
+    requires formed { is_well_formed (metadata_of meta.now) ≡ true }
+    requires room { (metadata_of meta.now).super.used_nodes + count ≤ meta.now.geometry.nodes }
+    ensures { IfOk result (λ nodes. AreFree (metadata_of meta.now) count nodes.items) }
+{
+    let mut free = Vec::new(alloc);
+    for node in 0..meta.geometry().nodes {
+        if free.len() as u64 == count {
+            return Ok(free);
+        }
+        if is_free(meta, node) {
+            free.push(node as u32)?;
+        }
+    }
+    Ok(free)
+}
