@@ -21,4 +21,6 @@ pub mod PurgingLemmas
 pub mod LookAfterLemmas
 pub mod MakingLemmas
 pub mod PreparedLemmas
+pub mod ExtentLemmas
+pub mod PublishLemmas
 pub mod FreeingLemmas

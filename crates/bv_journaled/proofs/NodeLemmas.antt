@@ -33,7 +33,7 @@ use Rattle.bv_journaled.proofs.PlacedLemmas.{places, placed_has}
 
 -- ---- one blob
 
-length_blocks : (es : List Extent) → length (blocks_of es) ≡ lengths es
+pub length_blocks : (es : List Extent) → length (blocks_of es) ≡ lengths es
 length_blocks [] = refl
 length_blocks (e ∷ es) = omega (arith, length-append (range_with_len e.start e.len) (blocks_of es), length-range_with_len e.start e.len, length_blocks es, lengths_more e es)
 

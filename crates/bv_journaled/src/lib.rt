@@ -4,6 +4,7 @@
 
 mod drawing;
 mod entering;
+mod fitting;
 mod freeing;
 mod keeping;
 mod laws;
@@ -15,6 +16,7 @@ mod preparing;
 mod purging;
 mod store;
 
+pub use fitting::{a_publication_fits_behind_purges, extents_of_rising_blocks_lie_apart};
 pub use laws::{
     a_blob_that_lasts_is_kept, a_checkpoint_keeps_the_newest_map, a_put_keeps_both_maps,
     a_sync_keeps_the_newest_map, an_append_keeps_the_map_or_makes_its_own,
