@@ -24,3 +24,4 @@ pub mod PreparedLemmas
 pub mod ExtentLemmas
 pub mod PublishLemmas
 pub mod FreeingLemmas
+pub mod PublishedLemmas

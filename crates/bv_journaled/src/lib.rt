@@ -13,6 +13,7 @@ mod opening;
 mod places;
 mod prepared;
 mod preparing;
+mod publishing;
 mod purging;
 mod store;
 

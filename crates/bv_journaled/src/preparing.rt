@@ -1,14 +1,18 @@
 //! An entry prepared: its changes, its blocks, and the memory for both.
 
-ghost use Rattle.std.specs.Prelude.{◌≡◌, ◌<◌, ◌^◌, true, map, IfOk};
+ghost use Rattle.std.specs.Prelude.{◌≡◌, ◌<◌, ◌^◌, ℕ, true, map, IfOk, IfSome, Contains};
+ghost use Rattle.spec_record.specs.Geometry.{IsGeometry};
 ghost use Rattle.spec_image.specs.WellFormed.{is_well_formed};
+ghost use Rattle.bv_store.specs.Stored.{CanWrite, HasNodes};
 ghost use Rattle.bv_txn.specs.Changes.{change_of};
 ghost use Rattle.bv_txn.specs.Metas.{metadata_of};
 ghost use Rattle.bv_journaled.specs.Preparing.{Makes};
-ghost use Rattle.bv_journaled.specs.Standing.{IsPrepared, asked};
+ghost use Rattle.bv_journaled.specs.Publishing.{CanTake};
+ghost use Rattle.bv_journaled.specs.Standing.{IsHeld, IsPrepared, asked, placed_at, stored_of};
 
 use crate::drawing::draw_up;
 use crate::prepared::Prepared;
+use crate::publishing::publication_of;
 use crate::purging::purges;
 use crate::store::JournaledStore;
 use bv_device::Device;
@@ -17,22 +21,28 @@ use bv_txn::{Change, Meta};
 use spec_tree::Digest;
 use std::alloc::{AllocError, Global};
 
-/// The changes that purge these roots and then publish this. A publication isn't planned yet: the
-/// answer is that there is no memory.
+/// The changes that purge these roots and then publish this.
 fn changes_for(
     alloc: Global,
     meta: &Meta,
     purged: &[Digest],
     published: &Option<Publication>,
 ) -> Result<Vec<Change>, AllocError>
-    requires { is_well_formed (metadata_of meta.now) ≡ true }
+    requires lawful { IsGeometry meta.now.geometry }
+    requires formed { is_well_formed (metadata_of meta.now) ≡ true }
+    requires fits { IfSome published.now (CanTake meta.now) }
     ensures { IfOk result (λ changes. Makes (metadata_of meta.now)
         (record { purged = purged.now; published = published.now })
         (map change_of changes.items)) }
 {
+    let mut changes = purges(alloc, meta, purged)?;
     match published {
-        None => purges(alloc, meta, purged),
-        Some(_) => Err(AllocError),
+        None => Ok(changes),
+        Some(publication) => {
+            let change = publication_of(alloc, meta, publication)?;
+            changes.push(change)?;
+            Ok(changes)
+        }
     }
 }
 
@@ -45,6 +55,12 @@ impl<D: Device> JournaledStore<D> {
         published: Option<Publication>,
     ) -> Result<Prepared, AllocError>
         requires number { self.now.cursor.number < 2 ^ 62 }
+        requires fits { CanWrite self.now.meta.geometry
+            (placed_at self.now.meta.geometry self.now.meta.blocks)
+            (record { purged = purged.now; published = published }) }
+        requires nodes { IfSome published (HasNodes (stored_of self.now)) }
+        requires free { IfSome published (λ p. (b : ℕ) → Contains p.blocks.items b
+            → ¬ IsHeld self.now b) }
         ensures fits { IfOk result (IsPrepared self.now.meta.geometry self.now.meta.blocks
             self.now.cursor.number) }
         ensures asked { IfOk result (λ p.

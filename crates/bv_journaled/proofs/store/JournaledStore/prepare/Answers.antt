@@ -1,8 +1,16 @@
-use Rattle.std.proofs.Common.{◌≡◌, subst}
+use Rattle.std.proofs.Common.{◌≡◌, sym, subst}
+use Rattle.std.specs.Prelude.{IfSome}
 use Rattle.bv_journaled.specs.declared.prepared.Prepared.{Prepared}
+use Rattle.bv_journaled.specs.Publishing.{CanTake}
 use Rattle.bv_journaled.specs.Standing.{Standing, IsPrepared}
+use Rattle.bv_journaled.proofs.MakingLemmas.{can_take}
 use Rattle.bv_journaled.proofs.PreparedLemmas.{prepared_is}
 use Rattle.bv_journaled.proofs.store.JournaledStore.prepare.Goals as goal
+
+pub changes_for-requires-clause-fits : goal.changes_for-requires-clause-fits
+changes_for-requires-clause-fits g c =
+    subst (λ (s : Standing). IfSome c.args.published (CanTake s.meta)) (sym c.self.view_is)
+    (can_take c.args.self.now (record { purged = c.args.purged.now; published = c.args.published }) c.requires.fits c.requires.nodes c.requires.free)
 
 pub returns-clause-fits : goal.returns-clause-fits
 returns-clause-fits g c =
