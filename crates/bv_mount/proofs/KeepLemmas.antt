@@ -173,14 +173,20 @@ module _ (i : Inspected) (base : Blocks) (is : IsInspected base i) (room : total
       subst (λ (stale : List ℕ). AtRest g next [] None meta (disk_with d (recover_plan g es stale next))) (sym is.replay.stale)
       (recover-done g info next es meta d opened start_is number_is most)
 
+  abbrev end : Blocks
+  end = now_after base (plan_for (inspection i))
+
+  -- which is what Now has then
+  pub plan_durable : Journalled i.geometry (next_for (inspection i)) [] i.meta.blocks (now_after base (plan_for (inspection i)))
+  plan_durable =
+      let synced_is : end ≡ synced_after base (plan_for (inspection i)) = image-settled base (plan_for (inspection i)) end (plan_settles [] (inspection i) (λ b. refl)) (image-now base (plan_for (inspection i))) in
+      subst (λ (x : Blocks). Journalled g next [] meta x) (sym synced_is) plan_rests.rests.durable
+
   -- Now at its end has the blobs
   pub plan_now : IfSome (metadata_of base) (λ m. m.super.geometry ≡ i.geometry) → HasBlobsOf base (now_after base (plan_for (inspection i)))
   plan_now geometry =
       let p : List Event = plan_for (inspection i) in
-      let end : Blocks = now_after base p in
-      let rests = plan_rests.rests in
-      let synced_is : end ≡ synced_after base p = image-settled base p end (plan_settles [] (inspection i) (λ b. refl)) (image-now base p) in
-      let durable : Journalled g next [] meta end = subst (λ (x : Blocks). Journalled g next [] meta x) (sym synced_is) rests.durable in
+      let durable = plan_durable in
       let holds : HoldsMeta g meta end = record {
         geometry = head_geometry g end durable.head durable.room;
         read = ap is_some (info_read g next end durable.lawful durable.info);

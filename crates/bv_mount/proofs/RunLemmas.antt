@@ -1,4 +1,4 @@
--- A run of a recovery keeps the blobs: whatever stops it, and whatever the device tells.
+-- A run of a plan keeps the blobs: whatever stops it, and whatever the device tells.
 use Rattle.std.proofs.Common.{◌≡◌, ◌≤◌, inl, inr, ℕ, zero, suc, ◌+◌, List, [], ◌∷◌, ◌++◌, length, take, Bool, true, false, cond, Option, Some, None, Result, Ok, Err, IfSome, refl, ap, sym, ◌∙◌, subst, arith}
 use Rattle.spec_disk.specs.declared.event.Event.{Event}
 use Rattle.spec_disk.specs.Disk.{Blocks, now_after}
@@ -22,12 +22,12 @@ use Rattle.spec_inspect.proofs.OutcomeLemmas.{volume_or_none}
 use Rattle.spec_inspect.specs.Inspection.{Inspection}
 use Rattle.bv_mount.specs.declared.inspected.Inspected.{Inspected}
 use Rattle.bv_mount.specs.Inspects.{inspection, IsInspected}
-use Rattle.bv_mount.specs.Recovers.{plan_for, next_for, HasBlobsOf, KeepsVolume, KeepsNow, Settles, RestsAfter}
+use Rattle.bv_mount.specs.Recovers.{plan_for, next_for, HasBlobsOf, KeepsVolume, KeepsNow, Settles}
 use Rattle.bv_mount.proofs.StayLemmas.{settled_right}
-use Rattle.bv_mount.proofs.KeepLemmas.{meta_geometry, plan_keeps, plan_now, plan_rests, plan_settles}
+use Rattle.bv_mount.proofs.KeepLemmas.{meta_geometry, plan_keeps, plan_now}
 use Rattle.spec_disk.proofs.EventLemmas.{length-now_after, now_after-append}
 
--- ---- a run of the plan
+-- ---- the plan
 
 planned-in_place : (payloads : List (ℕ × List ℕ)) (t count : ℕ) → IsPlan (in_place payloads t count)
 planned-in_place payloads t zero = tt
@@ -40,7 +40,7 @@ planned-scrub : (g : Geometry) (slots : List ℕ) → IsPlan (scrub g slots)
 planned-scrub g [] = tt
 planned-scrub g (s ∷ slots) = planned-scrub g slots
 
-planned : (x : Inspection) → IsPlan (plan_for x)
+pub planned : (x : Inspection) → IsPlan (plan_for x)
 planned x = by_clean (is_clean x.replay.entries x.replay.stale) where
   g : Geometry
   g = x.geometry
@@ -71,73 +71,88 @@ cut_moves (x ∷ plan) d e new cut = elim cut [
 told_same : (a b : Disk) → Some a ≡ Some b → a ≡ b
 told_same a b e = cc
 
-module _ (i : Inspected) (d : Disk) (is : IsInspected (now_of d) i) (room : total_blocks i.geometry ≤ length (now_of d)) where
+-- ---- what is proved of a plan, over the blocks that it begins with
+
+-- each stop of it leaves the blobs; its end has them, and is settled where its beginning was
+pub record KeepsBlobs (base : Blocks) (plan : List Event) : Type 0 where
+  pub planned : IsPlan plan
+  pub stops : (k : ℕ) → k ≤ length plan → Leaves base (take k plan) (HasBlobsOf base)
+  pub now : HasBlobsOf base (now_after base plan)
+
+module _ (i : Inspected) (base : Blocks) (is : IsInspected base i) (room : total_blocks i.geometry ≤ length base) where
+  geometry : IfSome (metadata_of base) (λ m. m.super.geometry ≡ i.geometry)
+  geometry = meta_geometry base (inspection i) is.is (volume_or_none base)
+
+  pub recovery_keeps : KeepsBlobs base (plan_for (inspection i))
+  recovery_keeps = record {
+    planned = planned (inspection i);
+    stops = plan_keeps i base is room geometry;
+    now = plan_now i base is room geometry;
+  }
+
+-- ---- a run of it on a disk
+
+module _ (d : Disk) (plan : List Event) (keeps : KeepsBlobs (now_of d) plan) where
   abbrev now : Disk
   now = record { base = now_of d; trace = [] }
-
-  abbrev plan : List Event
-  plan = plan_for (inspection i)
-
-  geometry : IfSome (metadata_of (now_of d)) (λ m. m.super.geometry ≡ i.geometry)
-  geometry = meta_geometry (now_of d) (inspection i) is.is (volume_or_none (now_of d))
 
   ran_keeps : (events : List Event) → RanFair now (Some (disk_with now events)) plan → (k : ℕ) → k ≤ length events → Leaves (now_of d) (take k events) (HasBlobsOf (now_of d))
   ran_keeps events ran k le j image fair =
       let same : events ≡ ran.events = ap (λ (x : Disk). x.trace) (told_same (disk_with now events) (disk_with now ran.events) ran.is) in
       let left = ran.stops k j (subst (λ (l : List Event). k ≤ length l) same le) (subst (λ (l : List Event). IsImage (now_of d) (take k l) j) same image) (subst (λ (l : List Event). NoChance (now_of d) (take k l) j) same fair) in
-      plan_keeps i (now_of d) is room geometry left.count left.planned j left.left left.fair
+      keeps.stops left.count left.planned j left.left left.fair
 
   pub run_keeps : (r : Result ℕ MountFault) (new : Option Disk) → Follows r plan (Some d) new → KeepsVolume d new
-  run_keeps (Ok count) new follows = record {
-    events = plan;
-    is = follows ∙ with_events-some d plan;
-    stops = plan_keeps i (now_of d) is room geometry;
-  }
+  run_keeps (Ok count) new follows = record { events = plan; is = follows ∙ with_events-some d plan; stops = keeps.stops }
   run_keeps (Err f) new follows =
       let cut = cut_moves plan d now new follows in
       record {
         events = cut.0;
         is = cut.1;
-        stops = ran_keeps cut.0 (RanFair-run {T = ℕ} {E = MountFault} (Err f) now plan (Some (disk_with now cut.0)) (planned (inspection i)) cut.2);
+        stops = ran_keeps cut.0 (RanFair-run {T = ℕ} {E = MountFault} (Err f) now plan (Some (disk_with now cut.0)) keeps.planned cut.2);
       }
 
-  -- Now of the disk after the plan
-  now_is : now_of (disk_with d plan) ≡ now_after (now_of d) plan
-  now_is = now_after-append d.base d.trace plan
-
-  pub run_now : (new : Option Disk) → new ≡ with_events (Some d) plan → KeepsNow d new
-  run_now new follows =
-      subst (λ (o : Option Disk). KeepsNow d o) (sym (follows ∙ with_events-some d plan))
-      (subst (λ (x : Blocks). HasBlobsOf (now_of d) x) (sym now_is) (plan_now i (now_of d) is room geometry))
+  -- what holds of Now at the plan's end holds of Now then
+  pub run_end : (P : Blocks → Type 0) (new : Option Disk) → new ≡ with_events (Some d) plan → P (now_after (now_of d) plan) → IfSome new (λ e. P (now_of e))
+  run_end P new follows holds =
+      subst (λ (o : Option Disk). IfSome o (λ e. P (now_of e))) (sym (follows ∙ with_events-some d plan))
+      (subst P (sym (now_after-append d.base d.trace plan)) holds)
 
 -- ---- what a device told
 
-module _ (i : Inspected) (old new : Seen) (r : Result ℕ MountFault) (law : IfSome old.told (λ d. length d.base ≡ old.block_count)) (total : total_blocks i.geometry ≤ old.block_count) (sees : Sees old (λ j. IsInspected j i)) where
-  now_long : (d : Disk) → length d.base ≡ old.block_count → total_blocks i.geometry ≤ length (now_of d)
-  now_long d count = omega (arith, total, count, length-now_after d.base d.trace)
+module _ (old new : Seen) (r : Result ℕ MountFault) (plan : List Event) (sees : Sees old (λ j. KeepsBlobs j plan)) where
+  pub told_keeps : Follows r plan old.told new.told → IfSome old.told (λ d. IsSettled d.trace → KeepsVolume d new.told)
+  told_keeps follows = by_told old.told sees follows where
+    by_told : (o : Option Disk) → IfSome o (λ d. ReadsRight d → KeepsBlobs (now_of d) plan) → Follows r plan o new.told → IfSome o (λ d. IsSettled d.trace → KeepsVolume d new.told)
+    by_told None keeps follows = tt
+    by_told (Some d) keeps follows = λ settled. run_keeps d plan (keeps (λ b. settled_right d.trace b settled)) r new.told follows
 
-  pub told_keeps : Follows r (plan_for (inspection i)) old.told new.told → IfSome old.told (λ d. IsSettled d.trace → KeepsVolume d new.told)
-  told_keeps follows = by_told old.told law sees follows where
-    by_told : (o : Option Disk) → IfSome o (λ d. length d.base ≡ old.block_count) → IfSome o (λ d. ReadsRight d → IsInspected (now_of d) i) → Follows r (plan_for (inspection i)) o new.told
-        → IfSome o (λ d. IsSettled d.trace → KeepsVolume d new.told)
-    by_told None count reads follows = tt
-    by_told (Some d) count reads follows = λ settled. run_keeps i d (reads (λ b. settled_right d.trace b settled)) (now_long d count) r new.told follows
+  -- what is seen of the blocks before holds of Now at the plan's end
+  pub told_end : (P : Blocks → Type 0) → Sees old (λ j. P (now_after j plan)) → new.told ≡ with_events old.told plan → IfSome old.told (λ d. ReadsRight d → IfSome new.told (λ e. P (now_of e)))
+  told_end P ends follows = by_told old.told ends sees follows where
+    by_told : (o : Option Disk) → IfSome o (λ d. ReadsRight d → P (now_after (now_of d) plan)) → IfSome o (λ d. ReadsRight d → KeepsBlobs (now_of d) plan) → new.told ≡ with_events o plan
+        → IfSome o (λ d. ReadsRight d → IfSome new.told (λ e. P (now_of e)))
+    by_told None ends keeps follows = tt
+    by_told (Some d) ends keeps follows = λ right. run_end d plan (keeps right) P new.told follows (ends right)
 
-  pub told_rests : IfSome old.told (λ d. ReadsRight d → RestsAfter (inspection i) (now_of d))
-  told_rests = by_told old.told law sees where
-    by_told : (o : Option Disk) → IfSome o (λ d. length d.base ≡ old.block_count) → IfSome o (λ d. ReadsRight d → IsInspected (now_of d) i) → IfSome o (λ d. ReadsRight d → RestsAfter (inspection i) (now_of d))
-    by_told None count reads = tt
-    by_told (Some d) count reads = λ right. plan_rests i (now_of d) (reads right) (now_long d count)
+  pub told_now : new.told ≡ with_events old.told plan → IfSome old.told (λ d. ReadsRight d → KeepsNow d new.told)
+  told_now follows = by_told old.told sees follows where
+    by_told : (o : Option Disk) → IfSome o (λ d. ReadsRight d → KeepsBlobs (now_of d) plan) → new.told ≡ with_events o plan → IfSome o (λ d. ReadsRight d → KeepsNow d new.told)
+    by_told None keeps follows = tt
+    by_told (Some d) keeps follows = λ right. run_end d plan (keeps right) (HasBlobsOf (now_of d)) new.told follows (keeps right).now
 
-  pub told_now : new.told ≡ with_events old.told (plan_for (inspection i)) → IfSome old.told (λ d. ReadsRight d → KeepsNow d new.told)
-  told_now follows = by_told old.told law sees follows where
-    by_told : (o : Option Disk) → IfSome o (λ d. length d.base ≡ old.block_count) → IfSome o (λ d. ReadsRight d → IsInspected (now_of d) i) → new.told ≡ with_events o (plan_for (inspection i))
-        → IfSome o (λ d. ReadsRight d → KeepsNow d new.told)
-    by_told None count reads follows = tt
-    by_told (Some d) count reads follows = λ right. run_now i d (reads right) (now_long d count) new.told follows
-
-  pub told_settles : new.told ≡ with_events old.told (plan_for (inspection i)) → IfSome old.told (λ d. IsSettled d.trace → Settles new.told)
-  told_settles follows = by_told old.told follows where
-    by_told : (o : Option Disk) → new.told ≡ with_events o (plan_for (inspection i)) → IfSome o (λ d. IsSettled d.trace → Settles new.told)
+  pub told_settles : ((trace : List Event) → IsSettled trace → IsSettled (trace ++ plan)) → new.told ≡ with_events old.told plan → IfSome old.told (λ d. IsSettled d.trace → Settles new.told)
+  told_settles settles follows = by_told old.told follows where
+    by_told : (o : Option Disk) → new.told ≡ with_events o plan → IfSome o (λ d. IsSettled d.trace → Settles new.told)
     by_told None follows = tt
-    by_told (Some d) follows = λ settled. subst Settles (sym (follows ∙ with_events-some d (plan_for (inspection i)))) (plan_settles d.trace (inspection i) settled)
+    by_told (Some d) follows = λ settled. subst Settles (sym (follows ∙ with_events-some d plan)) (settles d.trace settled)
+
+-- ---- what is seen of an inspected volume
+
+-- what holds of the blocks of an inspected volume that has room for it
+pub seen_inspected : (i : Inspected) (old : Seen) (P : Blocks → Type 0) → IfSome old.told (λ d. length d.base ≡ old.block_count) → total_blocks i.geometry ≤ old.block_count → Sees old (λ j. IsInspected j i)
+    → ((j : Blocks) → IsInspected j i → total_blocks i.geometry ≤ length j → P j) → Sees old P
+seen_inspected i old P law total sees holds = by_told old.told law sees where
+  by_told : (o : Option Disk) → IfSome o (λ d. length d.base ≡ old.block_count) → IfSome o (λ d. ReadsRight d → IsInspected (now_of d) i) → IfSome o (λ d. ReadsRight d → P (now_of d))
+  by_told None count reads = tt
+  by_told (Some d) count reads = λ right. holds (now_of d) (reads right) (omega (arith, total, count, length-now_after d.base d.trace))

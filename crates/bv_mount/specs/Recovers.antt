@@ -59,20 +59,27 @@ pub record RefusesRecovery (result : Result ℕ MountFault) (old new : Seen) : T
   pub is : result ≡ Err fault
   pub reads : Reads (mount_reported_by fault) old new (λ j. RefusesMount (inspect_of j) fault)
 
--- a recovery ran, of the volume that reads gave: at Ok its plan was done, and the answer is how many
--- entries were replayed; else a call of the device failed, whose count of faults is answered
-pub record RunsRecovery (result : Result ℕ MountFault) (old new : Seen) : Type 0 where
-  pub found : Inspection
+-- A run of a plan over the volume that reads gave. At Ok the plan was done, and the answer is how many
+-- entries were replayed; else a call of the device failed, whose count of faults is answered.
+pub record RunsPlan
+    (found : Inspection) (plan : List Event) (result : Result ℕ MountFault) (old new : Seen)
+    : Type 0 where
   pub seen : Sees old (λ j. inspect_of j ≡ Ok found)
-  pub performs : Performs result (plan_for found) old new
+  pub performs : Performs result plan old new
   pub count : IfOk result (λ count. count ≡ length found.replay.entries)
   pub fault : IfErr result (λ f. f ≡ mount.DeviceFault new.fault_count)
   -- where the device was settled: whatever a stop leaves, at Ok and at an error, has the blobs
   pub keeps : IfSome old.told (λ d. IsSettled d.trace → KeepsVolume d new.told)
-  -- at Ok Now has them too, the journal is at rest, and a settled device is settled
+  -- at Ok Now has them too, and a settled device is settled
   pub now : OnOk result (IfSome old.told (λ d. ReadsRight d → KeepsNow d new.told))
-  pub rests : OnOk result (IfSome old.told (λ d. ReadsRight d → RestsAfter found (now_of d)))
   pub settled : OnOk result (IfSome old.told (λ d. IsSettled d.trace → Settles new.told))
+
+-- a recovery ran
+pub record RunsRecovery (result : Result ℕ MountFault) (old new : Seen) : Type 0 where
+  pub found : Inspection
+  pub run : RunsPlan found (plan_for found) result old new
+  -- at Ok the journal is at rest
+  pub rests : OnOk result (IfSome old.told (λ d. ReadsRight d → RestsAfter found (now_of d)))
 
 -- what recovering a device does
 abbrev pub Recovers : Result ℕ MountFault → Seen → Seen → Type 0

@@ -22,7 +22,10 @@ pub fn recover_volume<D: Device>(alloc: Global, dev: &mut D) -> Result<u64, Moun
 }
 
 /// Recovers an inspected volume.
-fn recover_inspected<D: Device>(dev: &mut D, inspected: &Inspected) -> Result<(), MountFault>
+pub(crate) fn recover_inspected<D: Device>(
+    dev: &mut D,
+    inspected: &Inspected,
+) -> Result<(), MountFault>
     requires { total_blocks inspected.now.geometry ≤ (D.seen dev.old).block_count }
     ensures performs { Performs result (plan_for (inspection inspected.now))
         (D.seen dev.old) (D.seen dev.new) }
