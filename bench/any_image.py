@@ -2,28 +2,15 @@
 the format: milliseconds, best of five, at two sizes that show the growth; and `check` beside `root` of
 as many bytes, interleaved, as a ratio."""
 import pathlib
-import struct
 import sys
 import tempfile
 
 from measure import TOP, blobfs, table, timed
 
 sys.path.insert(0, str(TOP / "scripts"))
-from merkle import block_digest, root  # noqa: E402
-from volume import info_block, padded, regions, superblock  # noqa: E402
+from volume import blob_blocks, info_block, inode, regions, superblock  # noqa: E402
 
 BLOCK = 8192
-NO_NODE = 0xFFFFFFFF
-
-
-def blob_blocks(data):
-    """The blocks of a blob of version 1 with at most 256 data blocks: its tree, then its data."""
-    data_blocks = [padded(data[at : at + BLOCK]) for at in range(0, len(data), BLOCK)]
-    if len(data_blocks) <= 1:
-        return data_blocks
-    pieces = [data[at : at + BLOCK] for at in range(0, len(data), BLOCK)]
-    digests = b"".join(block_digest(0, BLOCK * k, piece) for k, piece in enumerate(pieces))
-    return [padded(digests), *data_blocks]
 
 
 def write_image(path, nodes, journal, blobs):
@@ -32,8 +19,7 @@ def write_image(path, nodes, journal, blobs):
     used = 1 + sum(map(len, laid))
     blocks = used + 64
     bitmap_blocks, node_blocks = regions(blocks, nodes)
-    head = bytearray(superblock(blocks, nodes, journal, 1))
-    struct.pack_into("<QQQ", head, 64, len(blobs), used, len(blobs))
+    head = superblock(blocks, nodes, journal, 1, len(blobs), used, len(blobs))
     bits = bytearray(bitmap_blocks * BLOCK)
     for bit in range(used):
         bits[bit // 8] |= 1 << (bit % 8)
@@ -41,13 +27,10 @@ def write_image(path, nodes, journal, blobs):
     start = 1
     for node, (data, parts) in enumerate(zip(blobs, laid)):
         extent = start | len(parts) << 48
-        struct.pack_into(
-            "<HHI32sQIIQ", node_map, 64 * node,
-            1, 1, NO_NODE, root(data), len(data), len(parts), 1, extent,
-        )
+        node_map[64 * node : 64 * node + 64] = inode(data, len(parts), extent)
         start += len(parts)
     with open(path, "wb") as file:
-        for part in [padded(bytes(head)), bits, node_map, padded(info_block())]:
+        for part in [head, bits, node_map, info_block()]:
             file.write(part)
         file.write(bytes((journal - 1) * BLOCK + BLOCK))
         for parts in laid:
