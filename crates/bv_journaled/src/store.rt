@@ -29,6 +29,7 @@ use std::marker::Model;
 /// them.
 ///
 /// Contracts see it as a `Standing`.
+#[derive(Drop)]
 pub struct JournaledStore<D: Device> {
     pub(crate) dev: D,
     /// The writes and syncs of the device before the mount.
@@ -97,6 +98,21 @@ impl<D: Device> JournaledStore<D> {
             gone: Vec::new(alloc),
             planned: None,
         }
+    }
+
+    /// The device, which the store gives up.
+    pub fn into_device(self) -> D
+        ensures { D.seen result ≡ self.device }
+    {
+        let JournaledStore {
+            dev,
+            opened: _,
+            meta: _,
+            ring: _,
+            gone: _,
+            planned: _,
+        } = self;
+        dev
     }
 
     /// Reads a data block.
