@@ -1,12 +1,8 @@
 -- Free nodes counted: as many are free as aren't in use.
-use Rattle.std.proofs.Common.{◌≡◌, ◌<◌, ◌≤◌, ℕ, zero, suc, ◌+◌, ◌*◌, ◌/◌, ◌%◌, List, [], ◌∷◌, ◌++◌, length, take, drop, get_or, Bool, true, false, eqb, ◌||◌, Result, Ok, Err, refl, ap, sym, ◌∙◌, subst, inl, inr, arith, length-append}
+use Rattle.std.proofs.Common.{◌≡◌, ◌<◌, ◌≤◌, ℕ, zero, suc, ◌+◌, List, [], ◌∷◌, ◌++◌, length, Bool, true, false, eqb, ◌||◌, Result, Ok, Err, refl, ap, sym, ◌∙◌, subst, inl, inr, arith, length-append}
 use Rattle.std.proofs.lemmas.Bool.{cases_lt, cases_eq}
 use Rattle.std.proofs.lemmas.List.Sums.{sum_by-cons, sum_by-append}
-use Rattle.std.proofs.lemmas.List.{get_or-take, get_or-drop}
 use Rattle.std.specs.Prelude.{IsOk}
-use Rattle.spec_record.specs.declared.geometry.Geometry.{Geometry}
-use Rattle.spec_record.specs.Geometry.{bitmap_blocks, node_blocks, node_map_in}
-use Rattle.spec_record.specs.Node.{place_bytes}
 use Rattle.spec_record.specs.declared.node.Node.{Node}
 use Rattle.spec_record.specs.declared.node.Node.TheVariants as nodes
 use Rattle.spec_record.specs.declared.node_fault.NodeFault.{NodeFault}
@@ -123,13 +119,3 @@ pub all_of_them : (m : Metadata) (n number : ℕ) (ks : List ℕ) → is_well_fo
 all_of_them m n number ks formed below all room few =
     let most : length ks ≡ count_below m.nodes.count (free_at m) = below.many ∙ ap (λ (x : ℕ). count_below x (free_at m)) all in
     so_many m n number ks below (omega (arith, all)) (omega (arith, most, room, few, free_count m formed))
-
--- ---- where a node stands
-
--- a node stands in a block of the node map
-pub place_in : (g : Geometry) (blocks : List (List ℕ)) (k : ℕ) → k < g.nodes → g.nodes % 128 ≡ 0
-    → place_bytes (node_map_in g blocks) k ≡ take 64 (drop (64 * (k % 128)) (get_or blocks (1 + bitmap_blocks g + k / 128) []))
-place_in g blocks k within whole =
-    let few : k / 128 < g.nodes / 128 = omega (arith, within, whole) in
-    ap (λ (b : List ℕ). take 64 (drop (64 * (k % 128)) b))
-    (get_or-take (node_blocks g) (drop (1 + bitmap_blocks g) blocks) (k / 128) [] few ∙ get_or-drop (1 + bitmap_blocks g) blocks (k / 128) [])

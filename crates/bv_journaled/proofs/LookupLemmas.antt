@@ -1,18 +1,21 @@
 -- The first blob with a root among the inodes below a node.
-use Rattle.std.proofs.Common.{◌≡◌, ◌<◌, ◌≤◌, ℕ, zero, suc, ◌+◌, ◌*◌, ◌/◌, ◌%◌, List, [], ◌∷◌, ◌++◌, length, drop, Bool, true, false, cond, Option, Some, None, refl, ap, sym, ◌∙◌, subst, inl, inr, arith, length-drop}
+use Rattle.std.proofs.Common.{◌≡◌, ◌<◌, ◌≤◌, ℕ, zero, suc, ◌+◌, ◌*◌, ◌/◌, ◌%◌, List, [], ◌∷◌, ◌++◌, take, drop, get_or, Bool, true, false, cond, Option, Some, None, Result, Ok, Err, refl, ap, sym, ◌∙◌, inl, inr, arith}
 use Rattle.std.proofs.lemmas.Bool.{cases_lt}
-use Rattle.std.proofs.lemmas.List.{length-take}
+use Rattle.std.proofs.lemmas.List.{get_or-take, get_or-drop}
 use Rattle.std.specs.Prelude.{find, is_some}
 use Rattle.spec_tree.specs.declared.Digest.{Digest}
+use Rattle.std.specs.Option.{option_to_list}
+use Rattle.spec_tree.specs.Order.{same_digest}
 use Rattle.spec_disk.specs.Disk.{Blocks}
-use Rattle.spec_record.specs.declared.geometry.Geometry.{Geometry}
-use Rattle.spec_record.specs.Geometry.{IsGeometry, bitmap_blocks, node_blocks, meta_blocks, node_map_in}
-use Rattle.spec_record.specs.Node.{place_bytes, node_or_fault}
+use Rattle.spec_record.specs.declared.node_fault.NodeFault.{NodeFault}
+use Rattle.spec_record.specs.Geometry.{bitmap_blocks, node_blocks, node_map_in}
+use Rattle.spec_record.specs.Node.{place_bytes}
 use Rattle.spec_image.specs.Chain.{Nodes, BlobRecord, chain}
-use Rattle.spec_image.specs.Metadata.{nodes_in}
 use Rattle.spec_image.specs.WellFormed.{read_of, records_below}
+use Rattle.spec_meta.proofs.Frame.{chain_read}
 use Rattle.spec_meta.proofs.MapLemmas.{named}
-use Rattle.bv_node.specs.Chains.{nodes_of}
+use Rattle.bv_txn.specs.Metas.{MetaBlocks}
+use Rattle.bv_journaled.specs.Inodes.{is_inode_of}
 
 find_past : (p : BlobRecord → Bool) (xs ys : List BlobRecord) → find p xs ≡ None → find p (xs ++ ys) ≡ find p ys
 find_past p [] ys e = refl
@@ -57,10 +60,45 @@ pub not_here : (p : BlobRecord → Bool) (ns : Nodes) (blocks k : ℕ) (found : 
 not_here p ns blocks k None none is some = find_next p ns blocks k none ∙ sym is
 not_here p ns blocks k (Some y) none is some = absurd cc
 
--- the node map of metadata blocks has the volume's nodes
-pub nodes_same : (g : Geometry) (meta : Blocks) → IsGeometry g → length meta ≡ meta_blocks g → (length (node_map_in g meta) ≡ node_blocks g) × (nodes_of (node_map_in g meta) g.version ≡ nodes_in g meta)
-nodes_same g meta lawful long =
-    let size : length (node_map_in g meta) ≡ node_blocks g =
-    omega (arith, length-take (node_blocks g) (drop (1 + bitmap_blocks g) meta), length-drop (1 + bitmap_blocks g) meta, long) in
-    let count : 128 * length (node_map_in g meta) ≡ g.nodes = omega (arith, size, lawful.whole_node_blocks) in
-    (size, λ i. record { count = count i; read = λ k. node_or_fault (place_bytes (node_map_in g meta) k) g.version })
+-- ---- the root of an inode
+
+-- the root of a chain that reads is that of its inode
+root_read : (root : Digest) (ns : Nodes) (blocks k : ℕ) (b : BlobRecord) → chain ns blocks k ≡ Ok b → is_inode_of root (ns.read k) ≡ same_digest root b.root
+root_read root ns blocks k b e =
+    let s = chain_read ns blocks k b e in
+    ap (is_inode_of root) s.is_node ∙ sym (ap (λ (x : BlobRecord). same_digest root x.root) s.is)
+
+-- the blob of an inode with the root has it
+pub named_here : (root : Digest) (ns : Nodes) (blocks k : ℕ) (found : Option BlobRecord) → is_inode_of root (ns.read k) ≡ true → option_to_list found ≡ read_of (chain ns blocks k) → found ≡ find (named root) (read_of (chain ns blocks k))
+named_here root ns blocks k found yes_is is = each (chain ns blocks k) refl found is
+  where
+    each : (r : Result BlobRecord NodeFault) → chain ns blocks k ≡ r → (o : Option BlobRecord) → option_to_list o ≡ read_of r → o ≡ find (named root) (read_of r)
+    each (Err f) e None l = refl
+    each (Err f) e (Some y) l = absurd cc
+    each (Ok b) e None l = absurd cc
+    each (Ok b) e (Some y) l =
+        let same : y ≡ b = cc in
+        let t : same_digest root b.root ≡ true = sym (root_read root ns blocks k b e) ∙ yes_is in
+        rw t (ap (λ (x : BlobRecord). Some x) same)
+
+-- no other node's blob has it
+pub unnamed_here : (root : Digest) (ns : Nodes) (blocks k : ℕ) → is_inode_of root (ns.read k) ≡ false → None ≡ find (named root) (read_of (chain ns blocks k))
+unnamed_here root ns blocks k not_it = each (chain ns blocks k) refl
+  where
+    each : (r : Result BlobRecord NodeFault) → chain ns blocks k ≡ r → None ≡ find (named root) (read_of r)
+    each (Err f) e = refl
+    each (Ok b) e =
+        let t : same_digest root b.root ≡ false = sym (root_read root ns blocks k b e) ∙ not_it in
+        rw t refl
+
+-- ---- where a node stands
+
+-- a node stands in a block of the node map
+pub node_placed : (m : MetaBlocks) (bs : Blocks) (at k : ℕ) → bs ≡ m.blocks → at ≡ 1 + bitmap_blocks m.geometry + k / 128 → k < m.geometry.nodes → m.geometry.nodes % 128 ≡ 0
+    → take 64 (drop (64 * (k % 128)) (get_or bs at [])) ≡ place_bytes (node_map_in m.geometry m.blocks) k
+node_placed m bs at k same at_is within whole =
+    let before : ℕ = 1 + bitmap_blocks m.geometry in
+    let few : k / 128 < m.geometry.nodes / 128 = omega (arith, within, whole) in
+    let inside : get_or (node_map_in m.geometry m.blocks) (k / 128) [] ≡ get_or m.blocks (before + k / 128) [] =
+    get_or-take (node_blocks m.geometry) (drop before m.blocks) (k / 128) [] few ∙ get_or-drop before m.blocks (k / 128) [] in
+    ap (λ (b : List ℕ). take 64 (drop (64 * (k % 128)) b)) ((λ i. get_or (same i) (at_is i) []) ∙ sym inside)

@@ -8,3 +8,4 @@ pub mod Entering
 pub mod Purging
 pub mod Publishing
 pub mod Preparing
+pub mod Inodes

@@ -6,20 +6,10 @@ ghost use Rattle.spec_meta.proofs.Frame.{is_free as reads_free};
 ghost use Rattle.bv_txn.specs.Metas.{metadata_of};
 ghost use Rattle.bv_journaled.specs.Publishing.{AreFree};
 
-use bv_node::{Node, NodeFault, read_node};
+use crate::reading::node_at;
+use bv_node::Node;
 use bv_txn::Meta;
 use std::alloc::{AllocError, Global};
-
-/// What a node reads as.
-fn node_at(meta: &Meta, node: u64) -> Result<Node, NodeFault>
-    requires { node < meta.now.geometry.nodes }
-    ensures { result ≡ (metadata_of meta.now).nodes.read node }
-{
-    let geometry = meta.geometry();
-    let block = &meta.blocks()[(1 + geometry.bitmap() + node / 128) as usize];
-    let place = &block.as_chunks::<64>().0[(node % 128) as usize];
-    read_node(place, geometry.version)
-}
 
 /// Whether a node is free.
 fn is_free(meta: &Meta, node: u64) -> bool

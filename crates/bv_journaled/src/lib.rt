@@ -15,6 +15,7 @@ mod prepared;
 mod preparing;
 mod publishing;
 mod purging;
+mod reading;
 mod store;
 
 pub use fitting::{a_publication_fits_behind_purges, extents_of_rising_blocks_lie_apart};

@@ -1,20 +1,32 @@
 //! The blob of a root, looked up in the metadata.
 
-ghost use Rattle.std.specs.Prelude.{◌≡◌, ◌≤◌, ◌<◌, ◌*◌, ◌^◌, length, find, true, IfOk};
+ghost use Rattle.std.specs.Prelude.{◌≡◌, ◌<◌, ◌*◌, length, find, IfOk};
 ghost use Rattle.std.specs.Option.{option_to_list};
-ghost use Rattle.spec_record.specs.Geometry.{IsGeometry, node_map_in};
 ghost use Rattle.spec_image.specs.Chain.{chain as chain_of};
 ghost use Rattle.spec_image.specs.Volume.{blob_in};
-ghost use Rattle.spec_image.specs.WellFormed.{read_of, records_below};
+ghost use Rattle.spec_image.specs.WellFormed.{read_of};
 ghost use Rattle.spec_meta.proofs.MapLemmas.{named};
 ghost use Rattle.bv_node.specs.Chains.{nodes_of};
 ghost use Rattle.bv_txn.specs.Metas.{metadata_of};
+ghost use Rattle.bv_journaled.specs.Inodes.{is_inode_of as reads_inode_of};
 
-use bv_node::{BlobRec, ChainFault, NodeMap, chain};
+use crate::reading::node_at;
+use bv_node::{BlobRec, ChainFault, Node, NodeMap, chain};
 use bv_txn::Meta;
 use spec_record::Geometry;
 use spec_tree::Digest;
 use std::alloc::{AllocError, Global};
+
+/// Whether a node is the inode of a blob with this root.
+fn is_inode_of(meta: &Meta, node: u64, root: &Digest) -> bool
+    requires { node < meta.now.geometry.nodes }
+    ensures { result ≡ reads_inode_of root.now ((metadata_of meta.now).nodes.read node) }
+{
+    match node_at(meta, node) {
+        Ok(Node::Inode(inode)) => root.cmp(&inode.root).is_eq(),
+        _ => false,
+    }
+}
 
 /// The blob of the inode at node `k`, where its chain reads.
 fn blob_at(
@@ -34,51 +46,36 @@ fn blob_at(
     }
 }
 
-/// The blob of the inode at node `k`, where its chain reads and it has this root.
+/// The blob of the inode at a node of the metadata, where its chain reads.
+fn blob_of(alloc: Global, meta: &Meta, node: u64) -> Result<Option<BlobRec>, AllocError>
+    requires { node < meta.now.geometry.nodes }
+    ensures { IfOk result (λ found. option_to_list found
+        ≡ read_of (chain_of (metadata_of meta.now).nodes meta.now.geometry.blocks node)) }
+{
+    let geometry = meta.geometry();
+    let from = (1 + geometry.bitmap()) as usize;
+    let nodes = NodeMap::from_blocks(alloc, &meta.blocks()[from..])?;
+    blob_at(alloc, &nodes, &geometry, node as u32)
+}
+
+/// The blob of the inode at a node, where its chain reads and it has this root.
 fn blob_named(
     alloc: Global,
-    nodes: &NodeMap,
-    geometry: &Geometry,
-    k: u32,
+    meta: &Meta,
+    node: u64,
     root: &Digest,
 ) -> Result<Option<BlobRec>, AllocError>
-    requires { k < 128 * length nodes.now }
+    requires { node < meta.now.geometry.nodes }
     ensures { IfOk result (λ found. found ≡ find (named root.now)
-        (read_of (chain_of (nodes_of nodes.now geometry.now.version) geometry.now.blocks k))) }
+        (read_of (chain_of (metadata_of meta.now).nodes meta.now.geometry.blocks node))) }
 {
-    let Some(blob) = blob_at(alloc, nodes, geometry, k)? else {
+    if !is_inode_of(meta, node, root) {
         return Ok(None);
-    };
-    if root.cmp(&blob.root()).is_eq() {
-        Ok(Some(blob))
-    } else {
-        Ok(None)
     }
+    blob_of(alloc, meta, node)
 }
 
-/// The first blob with this root among those whose chains read.
-fn first_named(
-    alloc: Global,
-    nodes: &NodeMap,
-    geometry: &Geometry,
-    root: &Digest,
-) -> Result<Option<BlobRec>, AllocError>
-    requires nodes { geometry.now.nodes ≡ 128 * length nodes.now }
-    requires few { geometry.now.nodes ≤ 65536 }
-    ensures { IfOk result (λ found. found ≡ find (named root.now)
-        (records_below (nodes_of nodes.now geometry.now.version) geometry.now.blocks
-        geometry.now.nodes)) }
-{
-    for k in 0..geometry.nodes {
-        let found = blob_named(alloc, nodes, geometry, k as u32, root)?;
-        if found.is_some() {
-            return Ok(found);
-        }
-    }
-    Ok(None)
-}
-
-/// The blob with this root, or none.
+/// The blob with this root, or none. Only the chains of inodes that have the root are read.
 pub(crate) fn find_blob(
     alloc: Global,
     meta: &Meta,
@@ -86,8 +83,11 @@ pub(crate) fn find_blob(
 ) -> Result<Option<BlobRec>, AllocError>
     ensures { IfOk result (λ found. found ≡ blob_in (metadata_of meta.now) root.now) }
 {
-    let geometry = meta.geometry();
-    let from = (1 + geometry.bitmap()) as usize;
-    let nodes = NodeMap::from_blocks(alloc, &meta.blocks()[from..])?;
-    first_named(alloc, &nodes, &geometry, root)
+    for node in 0..meta.geometry().nodes {
+        let found = blob_named(alloc, meta, node, root)?;
+        if found.is_some() {
+            return Ok(found);
+        }
+    }
+    Ok(None)
 }
