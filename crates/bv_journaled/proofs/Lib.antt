@@ -25,3 +25,4 @@ pub mod ExtentLemmas
 pub mod PublishLemmas
 pub mod FreeingLemmas
 pub mod PublishedLemmas
+pub mod ReadingLemmas

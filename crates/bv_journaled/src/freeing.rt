@@ -1,23 +1,13 @@
 //! Free nodes, for a blob that is published.
 
-ghost use Rattle.std.specs.Prelude.{◌≡◌, ◌≤◌, ◌<◌, ◌+◌, true, IfOk};
+ghost use Rattle.std.specs.Prelude.{◌≡◌, ◌≤◌, ◌+◌, true, IfOk};
 ghost use Rattle.spec_image.specs.WellFormed.{is_well_formed};
-ghost use Rattle.spec_meta.proofs.Frame.{is_free as reads_free};
 ghost use Rattle.bv_txn.specs.Metas.{metadata_of};
 ghost use Rattle.bv_journaled.specs.Publishing.{AreFree};
 
-use crate::reading::node_at;
-use bv_node::Node;
+use crate::reading::is_free;
 use bv_txn::Meta;
 use std::alloc::{AllocError, Global};
-
-/// Whether a node is free.
-fn is_free(meta: &Meta, node: u64) -> bool
-    requires { node < meta.now.geometry.nodes }
-    ensures { result ≡ reads_free ((metadata_of meta.now).nodes.read node) }
-{
-    matches!(node_at(meta, node), Ok(Node::Free))
-}
 
 /// The first free nodes, in order: so many.
 pub(crate) fn free_nodes(alloc: Global, meta: &Meta, count: u64) -> Result<Vec<u32>, AllocError>

@@ -8,25 +8,13 @@ ghost use Rattle.spec_image.specs.WellFormed.{read_of};
 ghost use Rattle.spec_meta.proofs.MapLemmas.{named};
 ghost use Rattle.bv_node.specs.Chains.{nodes_of};
 ghost use Rattle.bv_txn.specs.Metas.{metadata_of};
-ghost use Rattle.bv_journaled.specs.Inodes.{is_inode_of as reads_inode_of};
 
-use crate::reading::node_at;
-use bv_node::{BlobRec, ChainFault, Node, NodeMap, chain};
+use crate::reading::is_inode_of;
+use bv_node::{BlobRec, ChainFault, NodeMap, chain};
 use bv_txn::Meta;
 use spec_record::Geometry;
 use spec_tree::Digest;
 use std::alloc::{AllocError, Global};
-
-/// Whether a node is the inode of a blob with this root.
-fn is_inode_of(meta: &Meta, node: u64, root: &Digest) -> bool
-    requires { node < meta.now.geometry.nodes }
-    ensures { result ≡ reads_inode_of root.now ((metadata_of meta.now).nodes.read node) }
-{
-    match node_at(meta, node) {
-        Ok(Node::Inode(inode)) => root.cmp(&inode.root).is_eq(),
-        _ => false,
-    }
-}
 
 /// The blob of the inode at node `k`, where its chain reads.
 fn blob_at(
