@@ -7,16 +7,11 @@ import sys
 import tempfile
 import zlib
 
+import built
 from merkle import root
 from volume import BLOCK, NO_NODE, entry, info_block, inode, metadata, padded, superblock, volume
 
-top = pathlib.Path(__file__).resolve().parent.parent
-candidates = [top / "out/blobfs", top / "crates/bv_main/out/bv_main"]
-built = [path for path in candidates if path.exists()]
-if not built:
-    print("images: skipped, the program isn't built")
-    sys.exit(0)
-program = max(built, key=lambda path: path.stat().st_mtime)
+program = built.program("images")
 
 COUNTS = (64, 128, 16)
 SMALL, LARGE = b"hi", bytes(range(250)) * 80  # one block, and four: three of data and a tree

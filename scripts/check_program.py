@@ -9,16 +9,12 @@ import subprocess
 import sys
 import tempfile
 
+import built
 from merkle import root
-from volume import empty_volume
+from volume import empty_volume, pending_volume
 
-top = pathlib.Path(__file__).resolve().parent.parent
-candidates = [top / "out/blobfs", top / "crates/bv_main/out/bv_main"]
-built = [path for path in candidates if path.exists()]
-if not built:
-    print("program: skipped, it isn't built")
-    sys.exit(0)
-program = max(built, key=lambda path: path.stat().st_mtime)
+top = built.TOP
+program = built.program("program")
 wrong = []
 
 
@@ -150,6 +146,27 @@ with tempfile.TemporaryDirectory() as name:
     done = run([f"file:{image}", "check"])
     wanted = (0, b"check: clean\nblobs 0\nbytes 0\nstale 0\n")
     expect("check after its recovery", (done.returncode, done.stdout), wanted)
+
+    # A volume of version 1 whose journal holds an entry: it is replayed, and the version becomes 2.
+    pending = pending_volume(64, 128, 16, 1, b"hi")
+    listed = f"{root(b'hi').hex()} 2\n".encode()
+    image.write_bytes(pending)
+    for word, wanted in [
+        ("upgrade", b"upgraded 1\n"),
+        ("recover", b"recovered 0\n"),
+        ("list", listed),
+        ("upgrade", b"upgraded 0\n"),
+    ]:
+        done = run([f"file:{image}", word])
+        expect(f"{word} of a volume with an entry", (done.returncode, done.stdout), (0, wanted))
+    upgraded = image.read_bytes()
+    expect("version of an upgraded volume", upgraded[16:20], b"\2\0\0\0")
+    image.write_bytes(pending)
+    done = run([f"file:{image}", "recover"])
+    expect("recover of an entry", (done.returncode, done.stdout), (0, b"recovered 1\n"))
+    recovered = bytearray(image.read_bytes())
+    recovered[16] = 2
+    expect("bytes of an upgraded volume", upgraded == recovered, True)
 
     # A standard stream that is closed stays closed: no file gets its descriptor.
     image = folder / "closed.img"

@@ -11,15 +11,10 @@ import sys
 import tempfile
 import zlib
 
+import built
 from volume import BLOCK, entry, metadata, pending_volume, volume
 
-top = pathlib.Path(__file__).resolve().parent.parent
-candidates = [top / "out/blobfs", top / "crates/bv_main/out/bv_main"]
-built = [path for path in candidates if path.exists()]
-if not built:
-    print("random images: skipped, the program isn't built")
-    sys.exit(0)
-program = max(built, key=lambda path: path.stat().st_mtime)
+program = built.program("random images")
 runs = int(sys.argv[1]) if len(sys.argv) > 1 else 20000
 random.seed(20260112)
 

@@ -20,6 +20,7 @@ commands:
   list             print ROOT SIZE for each blob, in the order of the roots
   check            print everything that is wrong with the volume
   recover          put in place what the journal holds, and print how many entries that were
+  upgrade          recover, and make a volume of version 1 one of version 2; its blobs stay
 
 list and check write nothing to the device. check tests each blob's bytes against its root: a blob
 whose tree alone is damaged is found clean, though it can't be read window by window.

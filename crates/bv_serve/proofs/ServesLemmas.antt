@@ -1,6 +1,6 @@
 -- From what a command did to what the top call did.
-use Rattle.std.proofs.Common.{◌≡◌, ℕ, ◌+◌, ◌≤◌, List, length, eqb, Bool, true, false, Option, None, Some, Result, Ok, Err, IfSome, ◌⊎◌, inl, inr, arith, refl, ap, sym, ◌∙◌, subst, length-append}
-use Rattle.std.specs.Prelude.{IsSome, IsOk, IsSomeAnd, IsTrue}
+use Rattle.std.proofs.Common.{◌≡◌, ℕ, ◌+◌, ◌≤◌, List, length, eqb, true, Option, None, Some, Result, Ok, Err, IfSome, ◌⊎◌, inl, inr, arith, refl, ap, sym, ◌∙◌, subst, length-append}
+use Rattle.std.specs.Prelude.{IsSome, IsOk, IsSomeAnd, IsTrue, OnErr, codes}
 use Rattle.std.specs.Io.KnownBytes.{Consumes}
 use Rattle.spec_faults.specs.Faults.{Rose}
 use Rattle.spec_record.specs.declared.geometry.Geometry.{Geometry}
@@ -8,14 +8,14 @@ use Rattle.spec_record.specs.Geometry.{total_blocks}
 use Rattle.bv_layout.specs.Counts.{counts_or_fault}
 use Rattle.bv_device.specs.Seen.{Seen}
 use Rattle.bv_serve.specs.declared.command.Command.{Command}
-use Rattle.bv_serve.specs.declared.command.Command.TheVariants.{Root, ListBlobs, Check, Recover, Format}
+use Rattle.bv_serve.specs.declared.command.Command.TheVariants.{Root, ListBlobs, Check, Recover, Upgrade, Format}
 use Rattle.bv_serve.specs.declared.refusal.Refusal.TheVariants.{Usage}
 use Rattle.bv_serve.specs.declared.status.Status.{Status}
 use Rattle.bv_serve.specs.declared.status.Status.TheVariants as status
-use Rattle.bv_serve.specs.Lines.{refusal_line, refusal_status, mount_refusal, is_clean}
+use Rattle.bv_serve.specs.Lines.{number_line, refusal_line, refusal_status, mount_refusal, is_clean}
 use Rattle.bv_serve.specs.Root.{root_limit, RunsRoot}
 use Rattle.bv_serve.specs.Runs.{Change, LeavesAlone, Prints}
-use Rattle.bv_serve.specs.Serves.{Serves, Runs, CanEndWell, EndsWell, HoldsVolume, HoldsBlobs}
+use Rattle.bv_serve.specs.Serves.{Serves, Runs, CanEndWell, EndsWell, HoldsVolume}
 use Rattle.bv_serve.specs.Words.{IsForm, IsNoForm}
 use Rattle.bv_serve.specs.Format.{RunsFormat, Reports}
 use Rattle.bv_serve.proofs.FormatLemmas.{reports-no-usage}
@@ -40,8 +40,10 @@ use Rattle.spec_image.specs.Volume.{blobs}
 use Rattle.bv_mount.specs.Opens.{Refuses}
 use Rattle.bv_serve.specs.List.{RunsList, AnswersList, ReportsList}
 use Rattle.bv_serve.specs.Check.{RunsCheck, AnswersFindings, PrintsReport, ReportsCheck}
-use Rattle.bv_serve.specs.Recover.{RunsRecover, ReportsRecover, recovered_line}
-use Rattle.bv_mount.specs.Recovers.{Recovers}
+use Rattle.bv_serve.specs.Replayed.{ReportsReplayed}
+use Rattle.bv_serve.specs.Recover.{RunsRecover}
+use Rattle.bv_serve.specs.Upgrade.{RunsUpgrade}
+use Rattle.bv_mount.specs.Recovers.{RefusesRecovery}
 use Rattle.bv_serve.proofs.FormatLemmas.{prints-ok}
 use Rattle.bv_serve.proofs.WordsLemmas.{one_form}
 
@@ -174,26 +176,37 @@ check-complete ended old new input out runs holds device sink = by_answer runs.a
       let told = told_now old.told (λ d. (x : Findings) × (report_of (now_of d) ≡ Ok x) × IsTrue (is_clean x)) (λ d. Refuses (report_of (now_of d)) f) holds sees in
       inr (found_refuses (report_of (now_of told.0)) told.1.0 f ended old.fault_count new.fault_count told.1.1 told.2 reports.0 counts device)
 
--- ---- a recovery
+-- ---- a recovery, and an upgrade
 
-recover-no-usage : (answer : Result ℕ MountFault) (out : Change) → ReportsRecover answer status.Usage out → ⊥
-recover-no-usage (Ok count) out p = p
-recover-no-usage (Err f) out p = no_usage_mount f p.0
+replayed-no-usage : (word : List ℕ) (answer : Result ℕ MountFault) (out : Change) → ReportsReplayed word answer status.Usage out → ⊥
+replayed-no-usage word (Ok count) out p = p
+replayed-no-usage word (Err f) out p = no_usage_mount f p.0
 
 err_same : (f g : MountFault) (r : Result ℕ MountFault) → r ≡ Err f → r ≡ Err g → f ≡ g
 err_same f g r e h = cc
 
+-- it was refused as an inspection is, or fails only where a call of the device does
+replayed-complete : (word : List ℕ) (answer : Result ℕ MountFault) (ended : Status) (old new : Seen) (out : Change) → RefusesRecovery answer old new ⊎ OnErr answer (Rose old.fault_count new.fault_count)
+    → ReportsReplayed word answer ended out → HoldsVolume old → ¬ Rose old.fault_count new.fault_count → ¬ Rose out.faults_before out.faults_after → (ended ≡ status.Ok) ⊎ (ended ≡ status.Memory)
+replayed-complete word (Ok count) ended old new out either reports holds device sink = inl (prints-ok ended out (number_line word count) reports sink)
+replayed-complete word (Err f) ended old new out (inr failed) reports holds device sink = absurd (device failed)
+replayed-complete word (Err f) ended old new out (inl refused) reports holds device sink =
+    let same : f ≡ refused.fault = err_same f refused.fault (Err f) refl refused.is in
+    let told = told_now old.told (λ d. IsSome (blobs (now_of d))) (λ d. RefusesMount (inspect_of (now_of d)) refused.fault) holds refused.reads.now in
+    let j = now_of told.0 in
+    inr (ok_refuses (inspect_of j) refused.fault ended old.fault_count new.fault_count (blobs_are_ok j (volume_or_none j) told.1) told.2 (reports.0 ∙ ap (λ (x : MountFault). refusal_status (mount_refusal x)) same) refused.reads.only.faults device)
+
 recover-complete : (ended : Status) (old new : Seen) (input out : Change) → RunsRecover ended old new input out → HoldsVolume old
     → ¬ Rose old.fault_count new.fault_count → ¬ Rose out.faults_before out.faults_after → (ended ≡ status.Ok) ⊎ (ended ≡ status.Memory)
-recover-complete ended old new input out runs holds device sink = by_answer runs.answer runs.device runs.reports where
-  by_answer : (answer : Result ℕ MountFault) → Recovers answer old new → ReportsRecover answer ended out → (ended ≡ status.Ok) ⊎ (ended ≡ status.Memory)
-  by_answer (Ok count) recovers reports = inl (prints-ok ended out (recovered_line count) reports sink)
-  by_answer (Err f) (inr ran) reports = absurd (device ran.performs.faults.failed)
-  by_answer (Err f) (inl refused) reports =
-      let same : f ≡ refused.fault = err_same f refused.fault (Err f) refl refused.is in
-      let told = told_now old.told (λ d. IsSome (blobs (now_of d))) (λ d. RefusesMount (inspect_of (now_of d)) refused.fault) holds refused.reads.now in
-      let j = now_of told.0 in
-      inr (ok_refuses (inspect_of j) refused.fault ended old.fault_count new.fault_count (blobs_are_ok j (volume_or_none j) told.1) told.2 (reports.0 ∙ ap (λ (x : MountFault). refusal_status (mount_refusal x)) same) refused.reads.only.faults device)
+recover-complete ended old new input out runs holds device sink =
+    let either : RefusesRecovery runs.answer old new ⊎ OnErr runs.answer (Rose old.fault_count new.fault_count) = elim runs.device [ inl refused ↦ inl refused | inr ran ↦ inr ran.run.performs.faults.failed ] in
+    replayed-complete (codes "recovered") runs.answer ended old new out either runs.reports holds device sink
+
+upgrade-complete : (ended : Status) (old new : Seen) (input out : Change) → RunsUpgrade ended old new input out → HoldsVolume old
+    → ¬ Rose old.fault_count new.fault_count → ¬ Rose out.faults_before out.faults_after → (ended ≡ status.Ok) ⊎ (ended ≡ status.Memory)
+upgrade-complete ended old new input out runs holds device sink =
+    let either : RefusesRecovery runs.answer old new ⊎ OnErr runs.answer (Rose old.fault_count new.fault_count) = elim runs.device [ inl refused ↦ inl refused | inr ran ↦ inr ran.run.performs.faults.failed ] in
+    replayed-complete (codes "upgraded") runs.answer ended old new out either runs.reports holds device sink
 
 -- ---- all of it
 
@@ -235,8 +248,16 @@ Serves-check words ended old new input out form runs =
 pub Serves-recover : (words : List (List ℕ)) (ended : Status) (old new : Seen) (input out : Change) → IsForm words Recover
     → RunsRecover ended old new input out → Serves words ended old new input out
 Serves-recover words ended old new input out form runs =
-    Serves-by words Recover ended old new input out form runs (λ (e : ended ≡ status.Usage). recover-no-usage runs.answer out (subst (λ (s : Status). ReportsRecover runs.answer s out) e runs.reports))
+    Serves-by words Recover ended old new input out form runs
+    (λ (e : ended ≡ status.Usage). replayed-no-usage (codes "recovered") runs.answer out (subst (λ (s : Status). ReportsReplayed (codes "recovered") runs.answer s out) e runs.reports))
     (λ holds source device sink. recover-complete ended old new input out runs holds device sink)
+
+pub Serves-upgrade : (words : List (List ℕ)) (ended : Status) (old new : Seen) (input out : Change) → IsForm words Upgrade
+    → RunsUpgrade ended old new input out → Serves words ended old new input out
+Serves-upgrade words ended old new input out form runs =
+    Serves-by words Upgrade ended old new input out form runs
+    (λ (e : ended ≡ status.Usage). replayed-no-usage (codes "upgraded") runs.answer out (subst (λ (s : Status). ReportsReplayed (codes "upgraded") runs.answer s out) e runs.reports))
+    (λ holds source device sink. upgrade-complete ended old new input out runs holds device sink)
 
 pub Serves-format : (words : List (List ℕ)) (g : Geometry) (ended : Status) (old new : Seen) (input out : Change) → IsForm words (Format g)
     → RunsFormat g ended old new input out

@@ -5,7 +5,7 @@ use Rattle.std.specs.Str.Parse.{ParsesUnsigned}
 use Rattle.spec_record.specs.declared.geometry.Geometry.{Geometry}
 use Rattle.spec_record.specs.Tests.{IsBetween}
 use Rattle.bv_serve.specs.declared.command.Command.{Command}
-use Rattle.bv_serve.specs.declared.command.Command.TheVariants.{Root, ListBlobs, Check, Recover, Format}
+use Rattle.bv_serve.specs.declared.command.Command.TheVariants.{Root, ListBlobs, Check, Recover, Upgrade, Format}
 use Rattle.bv_serve.specs.Words.{IsNumber, IsFormatWord, IsForm, written_form, format_word}
 
 -- a list of one word, by the function that reads it
@@ -43,6 +43,7 @@ four_words a b c d Root form = absurd (cc (form.written))
 four_words a b c d ListBlobs form = absurd (cc (form.written))
 four_words a b c d Check form = absurd (cc (form.written))
 four_words a b c d Recover form = absurd (cc (form.written))
+four_words a b c d Upgrade form = absurd (cc (form.written))
 four_words a b c d (Format g) form = record {
   geometry = g;
   name = record { known = form.can.version; is = cc (form.written) };
@@ -99,24 +100,35 @@ one_form words Root Root p q = refl
 one_form words Root ListBlobs p q = let e : 114 ≡ 108 = ap first_byte (sym p.written ∙ q.written) in absurd (omega (arith, e))
 one_form words Root Check p q = let e : 114 ≡ 99 = ap first_byte (sym p.written ∙ q.written) in absurd (omega (arith, e))
 one_form words Root Recover p q = let e : 4 ≡ 7 = ap first_length (sym p.written ∙ q.written) in absurd (omega (arith, e))
+one_form words Root Upgrade p q = let e : 114 ≡ 117 = ap first_byte (sym p.written ∙ q.written) in absurd (omega (arith, e))
 one_form words Root (Format g) p q = absurd (cc (p.written, q.written))
 one_form words ListBlobs Root p q = let e : 108 ≡ 114 = ap first_byte (sym p.written ∙ q.written) in absurd (omega (arith, e))
 one_form words ListBlobs ListBlobs p q = refl
 one_form words ListBlobs Check p q = let e : 108 ≡ 99 = ap first_byte (sym p.written ∙ q.written) in absurd (omega (arith, e))
 one_form words ListBlobs Recover p q = let e : 108 ≡ 114 = ap first_byte (sym p.written ∙ q.written) in absurd (omega (arith, e))
+one_form words ListBlobs Upgrade p q = let e : 108 ≡ 117 = ap first_byte (sym p.written ∙ q.written) in absurd (omega (arith, e))
 one_form words ListBlobs (Format g) p q = absurd (cc (p.written, q.written))
 one_form words Check Root p q = let e : 99 ≡ 114 = ap first_byte (sym p.written ∙ q.written) in absurd (omega (arith, e))
 one_form words Check ListBlobs p q = let e : 99 ≡ 108 = ap first_byte (sym p.written ∙ q.written) in absurd (omega (arith, e))
 one_form words Check Check p q = refl
 one_form words Check Recover p q = let e : 99 ≡ 114 = ap first_byte (sym p.written ∙ q.written) in absurd (omega (arith, e))
+one_form words Check Upgrade p q = let e : 99 ≡ 117 = ap first_byte (sym p.written ∙ q.written) in absurd (omega (arith, e))
 one_form words Check (Format g) p q = absurd (cc (p.written, q.written))
 one_form words Recover Root p q = let e : 7 ≡ 4 = ap first_length (sym p.written ∙ q.written) in absurd (omega (arith, e))
 one_form words Recover ListBlobs p q = let e : 114 ≡ 108 = ap first_byte (sym p.written ∙ q.written) in absurd (omega (arith, e))
 one_form words Recover Check p q = let e : 114 ≡ 99 = ap first_byte (sym p.written ∙ q.written) in absurd (omega (arith, e))
 one_form words Recover Recover p q = refl
+one_form words Recover Upgrade p q = let e : 114 ≡ 117 = ap first_byte (sym p.written ∙ q.written) in absurd (omega (arith, e))
 one_form words Recover (Format g) p q = absurd (cc (p.written, q.written))
+one_form words Upgrade Root p q = let e : 117 ≡ 114 = ap first_byte (sym p.written ∙ q.written) in absurd (omega (arith, e))
+one_form words Upgrade ListBlobs p q = let e : 117 ≡ 108 = ap first_byte (sym p.written ∙ q.written) in absurd (omega (arith, e))
+one_form words Upgrade Check p q = let e : 117 ≡ 99 = ap first_byte (sym p.written ∙ q.written) in absurd (omega (arith, e))
+one_form words Upgrade Recover p q = let e : 117 ≡ 114 = ap first_byte (sym p.written ∙ q.written) in absurd (omega (arith, e))
+one_form words Upgrade Upgrade p q = refl
+one_form words Upgrade (Format g) p q = absurd (cc (p.written, q.written))
 one_form words (Format g) Root p q = absurd (cc (p.written, q.written))
 one_form words (Format g) ListBlobs p q = absurd (cc (p.written, q.written))
 one_form words (Format g) Check p q = absurd (cc (p.written, q.written))
 one_form words (Format g) Recover p q = absurd (cc (p.written, q.written))
+one_form words (Format g) Upgrade p q = absurd (cc (p.written, q.written))
 one_form words (Format g) (Format h) p q = ap (λ (x : Geometry). Format x) (format-unique words g h p q)

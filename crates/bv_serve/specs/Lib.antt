@@ -6,5 +6,7 @@ pub mod Root
 pub mod Format
 pub mod List
 pub mod Check
+pub mod Replayed
 pub mod Recover
+pub mod Upgrade
 pub mod Serves

@@ -1,7 +1,6 @@
 -- What the top call does with its words, its device, its source and its sink.
 use Rattle.std.specs.Prelude.{◌≡◌, ◌↔◌, ◌⊎◌, ℕ, ◌≤◌, List, length, Ok, IsSome, IsSomeAnd}
 use Rattle.spec_faults.specs.Faults.{Rose}
-use Rattle.spec_record.specs.declared.geometry.Geometry.{Geometry}
 use Rattle.spec_record.specs.Geometry.{total_blocks}
 use Rattle.spec_image.specs.Volume.{blobs}
 use Rattle.bv_layout.specs.Counts.{counts_or_fault}
@@ -12,7 +11,7 @@ use Rattle.spec_tree.specs.declared.Digest.{Digest}
 use Rattle.spec_tree.specs.declared.blob.Blob.{Blob}
 use Rattle.spec_crash.specs.Crash.{HoldsWhole}
 use Rattle.bv_serve.specs.declared.command.Command.{Command}
-use Rattle.bv_serve.specs.declared.command.Command.TheVariants.{Root, ListBlobs, Check, Recover, Format}
+use Rattle.bv_serve.specs.declared.command.Command.TheVariants.{Root, ListBlobs, Check, Recover, Upgrade, Format}
 use Rattle.bv_serve.specs.declared.refusal.Refusal.TheVariants.{Usage}
 use Rattle.bv_serve.specs.declared.status.Status.{Status}
 use Rattle.bv_serve.specs.declared.status.Status.TheVariants as status
@@ -20,6 +19,7 @@ use Rattle.bv_serve.specs.Format.{RunsFormat}
 use Rattle.bv_serve.specs.List.{RunsList}
 use Rattle.bv_serve.specs.Check.{RunsCheck}
 use Rattle.bv_serve.specs.Recover.{RunsRecover}
+use Rattle.bv_serve.specs.Upgrade.{RunsUpgrade}
 use Rattle.bv_serve.specs.Lines.{refusal_line}
 use Rattle.bv_serve.specs.Root.{root_limit, RunsRoot}
 use Rattle.bv_serve.specs.Runs.{Change, LeavesAlone, Prints}
@@ -31,6 +31,7 @@ Runs Root ended old new input out = RunsRoot ended input out
 Runs ListBlobs ended old new input out = RunsList ended old new input out
 Runs Check ended old new input out = RunsCheck ended old new input out
 Runs Recover ended old new input out = RunsRecover ended old new input out
+Runs Upgrade ended old new input out = RunsUpgrade ended old new input out
 Runs (Format g) ended old new input out = RunsFormat g ended old new input out
 
 -- the input that the source held is within the limit
@@ -53,6 +54,7 @@ CanEndWell Root old input = IsShort input
 CanEndWell ListBlobs old input = HoldsVolume old
 CanEndWell Check old input = HoldsBlobs old
 CanEndWell Recover old input = HoldsVolume old
+CanEndWell Upgrade old input = HoldsVolume old
 CanEndWell (Format g) old input =
     (counts_or_fault g ≡ Ok tt) × (total_blocks g ≤ old.block_count)
 
@@ -62,6 +64,7 @@ EndsWell Root ended = ended ≡ status.Ok
 EndsWell ListBlobs ended = (ended ≡ status.Ok) ⊎ (ended ≡ status.Memory)
 EndsWell Check ended = (ended ≡ status.Ok) ⊎ (ended ≡ status.Memory)
 EndsWell Recover ended = (ended ≡ status.Ok) ⊎ (ended ≡ status.Memory)
+EndsWell Upgrade ended = (ended ≡ status.Ok) ⊎ (ended ≡ status.Memory)
 EndsWell (Format g) ended = ended ≡ status.Ok
 
 -- A run of the top call: its words, its status, and what became of the device, `old` and `new`, and
@@ -86,6 +89,7 @@ SparesDevice Root ended = Unit {0}
 SparesDevice ListBlobs ended = ⊥
 SparesDevice Check ended = ⊥
 SparesDevice Recover ended = ⊥
+SparesDevice Upgrade ended = ⊥
 SparesDevice (Format g) ended = ended ≡ status.Volume
 
 -- the run leaves its device exactly as it was

@@ -3,7 +3,7 @@ use Rattle.std.specs.Prelude.{◌≡◌, ◌<◌, ◌^◌, ◌==◌, ℕ, List, 
 use Rattle.spec_record.specs.declared.geometry.Geometry.{Geometry}
 use Rattle.spec_record.specs.Tests.{IsBetween}
 use Rattle.bv_serve.specs.declared.command.Command.{Command}
-use Rattle.bv_serve.specs.declared.command.Command.TheVariants.{Root, Format, ListBlobs, Check, Recover}
+use Rattle.bv_serve.specs.declared.command.Command.TheVariants.{Root, Format, ListBlobs, Check, Recover, Upgrade}
 use Rattle.bv_serve.specs.declared.status.Status.{Status}
 use Rattle.bv_serve.specs.declared.status.Status.TheVariants as status
 
@@ -36,6 +36,7 @@ written_form Root = codes "root" ∷ []
 written_form ListBlobs = codes "list" ∷ []
 written_form Check = codes "check" ∷ []
 written_form Recover = codes "recover" ∷ []
+written_form Upgrade = codes "upgrade" ∷ []
 written_form (Format g) =
     format_word g.version ∷ decimal g.blocks ∷ decimal g.nodes ∷ decimal g.journal ∷ []
 
@@ -52,6 +53,7 @@ CanBeWritten Root = Unit {0}
 CanBeWritten ListBlobs = Unit {0}
 CanBeWritten Check = Unit {0}
 CanBeWritten Recover = Unit {0}
+CanBeWritten Upgrade = Unit {0}
 CanBeWritten (Format g) = HasShortCounts g
 
 -- the words write this command

@@ -6,7 +6,7 @@ ghost use Rattle.bv_serve.specs.Lines.{clean_text, damage_text, damaged_line, fa
 ghost use Rattle.bv_serve.specs.Runs.{Change, LeavesAlone, change};
 
 use crate::fault_text::write_fault;
-use crate::lines::{refuse, root_line};
+use crate::lines::{refuse, root_line, write_count};
 use crate::{Line, Refusal, Status};
 use bv_check::Report;
 use bv_device::Device;
@@ -70,18 +70,6 @@ fn clean_text(alloc: Global, report: &Report) -> Result<Vec<u8>, AllocError>
     write_count(&mut line, "bytes", report.bytes);
     write_count(&mut line, "stale", report.stale);
     Vec::from_slice(alloc, line.as_bytes())
-}
-
-/// Appends a word, a number and a newline.
-fn write_count(line: &mut Line, word: &str, number: u64)
-    requires { length line.old + length word.now + 22 ≤ 192 }
-    ensures text { line.new ≡ line.old ++ number_line word.now number }
-    ensures room { length line.new ≤ length line.old + length word.now + 22 }
-{
-    line.push(word.as_bytes());
-    line.push(b" ");
-    line.push_number(number);
-    line.push(b"\n");
 }
 
 /// The text of a report where something is wrong.

@@ -16,6 +16,8 @@ pub enum Command {
     Check,
     /// Put in place what the journal of the volume holds.
     Recover,
+    /// Recover the volume, and make it one of version 2.
+    Upgrade,
     /// Make a volume without a blob, of these counts and this version.
     Format(Geometry),
 }
@@ -45,6 +47,7 @@ fn one_word(word: &str) -> Option<Command>
         "list" => Some(Command::ListBlobs),
         "check" => Some(Command::Check),
         "recover" => Some(Command::Recover),
+        "upgrade" => Some(Command::Upgrade),
         _ => None,
     }
 }

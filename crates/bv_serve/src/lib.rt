@@ -17,6 +17,7 @@ mod serve;
 mod status;
 #[cfg(test)]
 mod tests;
+mod upgrade;
 
 pub use command::Command;
 pub use line::Line;

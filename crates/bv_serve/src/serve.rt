@@ -9,6 +9,7 @@ use crate::lines::refuse;
 use crate::list::list;
 use crate::recover::recover;
 use crate::root::root;
+use crate::upgrade::upgrade;
 use crate::{Command, Refusal, Status};
 use bv_device::Device;
 use bv_io::{Sink, Source};
@@ -52,6 +53,7 @@ pub fn run_plain<D: Device, S: Source, K: Sink>(
         Some(Command::ListBlobs) => (list(alloc, &mut dev, out), dev),
         Some(Command::Check) => (check(alloc, &mut dev, out), dev),
         Some(Command::Recover) => (recover(alloc, &mut dev, out), dev),
+        Some(Command::Upgrade) => (upgrade(alloc, &mut dev, out), dev),
         Some(Command::Format(geometry)) => (format(&mut dev, geometry, out), dev),
         None => (refuse(out, Refusal::Usage), dev),
     }

@@ -1,5 +1,4 @@
-use Rattle.std.proofs.Common.{◌≡◌, Ok, Err, ap, ◌∙◌, subst}
-use Rattle.spec_inspect.specs.declared.mount_fault.MountFault.{MountFault}
+use Rattle.std.proofs.Common.{Err, ap, ◌∙◌, subst}
 use Rattle.bv_check.specs.Checks.{findings}
 use Rattle.bv_serve.specs.declared.refusal.Refusal.{Refusal}
 use Rattle.bv_serve.specs.Lines.{mount_refusal, refusal_line, refusal_status}

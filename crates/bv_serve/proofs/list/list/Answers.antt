@@ -1,4 +1,4 @@
-use Rattle.std.proofs.Common.{◌≡◌, List, ℕ, Ok, Err, ap, ◌∙◌, subst}
+use Rattle.std.proofs.Common.{List, ℕ, Ok, Err, ap, ◌∙◌, subst}
 use Rattle.bv_serve.specs.declared.refusal.Refusal.{Refusal}
 use Rattle.bv_serve.specs.Lines.{refusal_line, refusal_status}
 use Rattle.bv_serve.specs.Runs.{Prints, PrintsAt, change}

@@ -1,7 +1,7 @@
 use Rattle.std.proofs.Common.{refl, subst}
 use Rattle.bv_serve.specs.Words.{IsForm}
 use Rattle.std.proofs.KnownBytes.{Keeps-refl}
-use Rattle.bv_serve.proofs.ServesLemmas.{Serves-list, Serves-check, Serves-recover, Serves-format, Serves-refused}
+use Rattle.bv_serve.proofs.ServesLemmas.{Serves-list, Serves-check, Serves-recover, Serves-upgrade, Serves-format, Serves-refused}
 use Rattle.bv_serve.proofs.serve.run_plain.Goals as goal
 
 pub returns-in-Some-Format-clause-serves : goal.returns-in-Some-Format-clause-serves
@@ -28,3 +28,8 @@ pub returns-in-Some-Recover-clause-serves : goal.returns-in-Some-Recover-clause-
 returns-in-Some-Recover-clause-serves g c =
     Serves-recover _ c.recover.result _ _ _ _ (subst (IsForm _) c.in-Some-Recover.field-0-is c.in-Some-Recover.ensures.some)
     (c.recover.ensures _ (record { left = Keeps-refl _; kept = refl }))
+
+pub returns-in-Some-Upgrade-clause-serves : goal.returns-in-Some-Upgrade-clause-serves
+returns-in-Some-Upgrade-clause-serves g c =
+    Serves-upgrade _ c.upgrade.result _ _ _ _ (subst (IsForm _) c.in-Some-Upgrade.field-0-is c.in-Some-Upgrade.ensures.some)
+    (c.upgrade.ensures _ (record { left = Keeps-refl _; kept = refl }))
