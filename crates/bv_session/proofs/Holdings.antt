@@ -1,12 +1,16 @@
 -- What a share gains in a holding, by what the value gained.
-use Rattle.std.proofs.Common.{◌≡◌, List, [], ◌∷◌, ◌++◌, refl, sym, ap, ◌∙◌}
-use Rattle.std.specs.Prelude.{Result, Ok, Err, IfOk}
+use Rattle.std.proofs.Common.{◌≡◌, ◌<◌, ℕ, List, [], ◌∷◌, ◌++◌, refl, sym, ap, ◌∙◌, subst}
+use Rattle.std.specs.Prelude.{Bool, Option, Some, Result, Ok, Err, IfOk, IfSome}
+use Rattle.spec_session.specs.Own.{OwnAdd}
+use Rattle.spec_tree.specs.Tree.{need_of}
+use Rattle.bv_turn.specs.Entries.{entries_of}
+use Rattle.bv_session.specs.declared.entry.Basis.{Basis}
 use Rattle.spec_core.specs.declared.act.Act.{Act}
 use Rattle.spec_core.specs.declared.reply.Reply.{Reply}
 use Rattle.spec_core.specs.declared.event.CoreEvent.{CoreEvent}
 use Rattle.spec_core.specs.declared.who.Who.{Who}
 use Rattle.bv_session.specs.declared.entry.Entry.{Entry}
-use Rattle.bv_session.specs.Events.{events_in, Notes}
+use Rattle.bv_session.specs.Events.{events_in, IsUnderWay, Notes, NotesAs}
 use Rattle.bv_session.specs.Sessions.{Gains}
 
 -- the events of a list with one entry more
@@ -32,3 +36,27 @@ module _ (held entries after before kept new : List Entry) (out : held ≡ entri
       → IfOk result (λ a. Notes entries after who act (reply a)) → IfOk result (λ a. Gains who act (reply a) (events_in before) (events_in new))
   gains_ok who act reply (Ok a) n = gains_one who act (reply a) n
   gains_ok who act reply (Err e) n = n
+
+-- the entry is this event's
+pub notes_are : {A E : Type 0} (old new : List Entry) (who : Who) (act : Act) (reply : A → Reply) (P : A → Entry → Type 0) (result : Result A E)
+    → IfOk result (λ a. NotesAs old new who act (reply a) (P a)) → IfOk result (λ a. Notes old new who act (reply a))
+notes_are old new who act reply P (Ok a) n = (n.0, n.1, n.2, n.3, n.4)
+notes_are old new who act reply P (Err e) n = tt
+
+-- ---- what a share knows, of the value that it holds
+
+-- the value's entries of the session are the share's list
+pub held_list : (session : Entry → ℕ) (who mine old : ℕ) (es held list : List Entry) → who ≡ old → mine ≡ old → held ≡ list → held ≡ entries_of session mine es → list ≡ entries_of session who es
+held_list session who mine old es held list w m same is = sym same ∙ is ∙ ap (λ (s : ℕ). entries_of session s es) (m ∙ sym w)
+
+-- the add that the session has under way
+pub held_add : (a : OwnAdd) (admitted : Bool) (list es : List Entry) → list ≡ es → IsUnderWay a admitted (events_in list) → IsUnderWay a admitted (events_in es)
+held_add a admitted list es is = subst (λ (xs : List Entry). IsUnderWay a admitted (events_in xs)) is
+
+-- there is a block to be put
+pub held_next : (t : OwnAdd) (o : Option Basis) (b : Basis) → o ≡ Some b → IfSome o (λ b. t.puts < need_of b.geometry.version t.size) → t.puts < need_of b.geometry.version t.size
+held_next t o b is h = subst (λ (x : Option Basis). IfSome x (λ b. t.puts < need_of b.geometry.version t.size)) is h
+
+-- all are put
+pub held_all : (t : OwnAdd) (o : Option Basis) (b : Basis) → o ≡ Some b → IfSome o (λ b. t.puts ≡ need_of b.geometry.version t.size) → t.puts ≡ need_of b.geometry.version t.size
+held_all t o b is h = subst (λ (x : Option Basis). IfSome x (λ b. t.puts ≡ need_of b.geometry.version t.size)) is h

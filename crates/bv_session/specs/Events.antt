@@ -1,5 +1,5 @@
 -- What the event calls of a value say: of its entries, and of the history that they are.
-use Rattle.std.specs.Prelude.{◌≡◌, ℕ, true, List, [], ◌∷◌, ◌++◌, map, Option, Some, None}
+use Rattle.std.specs.Prelude.{◌≡◌, ℕ, Bool, List, [], ◌∷◌, ◌++◌, map, Option, Some, None}
 use Rattle.spec_disk.specs.declared.event.Event.{Event}
 use Rattle.spec_disk.specs.Disk.{now_after}
 use Rattle.spec_disk.specs.Images.{IsSettled}
@@ -10,7 +10,7 @@ use Rattle.spec_core.specs.declared.reply.Reply.TheVariants as replies
 use Rattle.spec_core.specs.declared.event.CoreEvent.{CoreEvent}
 use Rattle.spec_core.specs.declared.who.Who.{Who}
 use Rattle.spec_core.specs.History.{History}
-use Rattle.spec_session.specs.Own.{Named, OwnAdd, add_of}
+use Rattle.spec_session.specs.Own.{OwnAdd, add_of, put_add}
 use Rattle.spec_headline.specs.Run.{HasWholeBlobs}
 use Rattle.spec_headline.specs.Headline.{Survives}
 use Rattle.bv_turn.specs.Entries.{entries_of}
@@ -45,6 +45,12 @@ abbrev pub Notes : List Entry → List Entry → Who → Act → Reply → Type 
 Notes old new who act reply =
     (e : Entry) × (new ≡ old ++ e ∷ [])
     × (e.event.who ≡ who) × (e.event.act ≡ act) × (e.event.reply ≡ reply)
+
+-- the same, and the entry has P
+abbrev pub NotesAs : List Entry → List Entry → Who → Act → Reply → (Entry → Type 0) → Type 0
+NotesAs old new who act reply P =
+    (e : Entry) × (new ≡ old ++ e ∷ [])
+    × (e.event.who ≡ who) × (e.event.act ≡ act) × (e.event.reply ≡ reply) × P e
 
 -- the replies that refuse what was asked
 abbrev pub IsRefusal : Reply → Type 0
@@ -93,13 +99,15 @@ abbrev pub IfRefuses : Outcome → (Reply → Type 0) → Type 0
 IfRefuses outcomes.Done P = Unit {0}
 IfRefuses (outcomes.Refused q) P = P q
 
--- an add of this blob that is admitted, and has so many blocks put
-abbrev pub admitted_with : Named → ℕ → OwnAdd
-admitted_with blob puts = record { root = blob.0; size = blob.1; admitted = true; puts = puts }
+-- the session has this add under way, which is admitted or not
+pub record IsUnderWay (a : OwnAdd) (admitted : Bool) (own : List CoreEvent) : Type 0 where
+  pub is : add_of own ≡ Some a
+  pub state : a.admitted ≡ admitted
 
--- the session has this add under way, and it is admitted
-abbrev pub IsAdding : Named → List CoreEvent → Type 0
-IsAdding blob own = (puts : ℕ) × (add_of own ≡ Some (admitted_with blob puts))
+-- the add once a block was to be put
+abbrev pub put_by : Outcome → OwnAdd → OwnAdd
+put_by outcomes.Done a = put_add a
+put_by (outcomes.Refused q) a = a
 
 -- the act is a read or a scan of this slot
 abbrev pub IsLook : Act → ℕ → Type 0

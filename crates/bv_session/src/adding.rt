@@ -1,11 +1,13 @@
 //! An add line: begin, claim, admit, every put, and settle.
 ghost use Rattle.std.specs.Prelude.{◌≡◌, ◌≤◌, ◌+◌, [], None, Some, length};
+ghost use Rattle.bv_turn.specs.Tokens.{list_of};
+ghost use Rattle.bv_writer.specs.Plans.{IsBlobOf};
 ghost use Rattle.spec_tree.specs.Tree.{need_of};
 ghost use Rattle.spec_session.specs.Lines.{admits};
 ghost use Rattle.spec_session.specs.Own.{new_add, add_of};
 ghost use Rattle.bv_claims.specs.Tokens.{IsClaimedOf, claimed_gained, claimed_left};
-ghost use Rattle.bv_session.specs.Events.{admitted_with};
-ghost use Rattle.bv_session.specs.Adds.{begins, all_put, named_by, AddEnds, PutsEnd};
+ghost use Rattle.bv_session.specs.Adds.{begins, all_put, put_of, AddEnds, PutsEnd, IfAllPut};
+ghost use Rattle.bv_session.specs.Written.{HasWritten, written};
 ghost use Rattle.bv_session.specs.Sessions.{own, IsFor, BasisHas, Stays};
 
 use crate::reply::result_of;
@@ -34,6 +36,7 @@ pub fn add<R: Wait, T: Serves, G: Gate>(
     requires basis { BasisHas share.old (λ b. (b.claims ≡ claims.now)
         × (b.geometry.version ≡ adding.now.version)) }
     requires need { need_of adding.now.version adding.now.size ≤ 65535 }
+    requires blob { IsBlobOf adding.now.version adding.now.root adding.now.size adding.now.blocks }
     requires idle { add_of (own share.old) ≡ None }
     ensures stays { Stays turn.now share.old share.new }
     ensures line { AddEnds adding.now who [] result (own share.old) (own share.new) }
@@ -67,8 +70,9 @@ fn admit<R: Wait, T: Serves>(
     claimed: Claimed,
 ) -> Result<LineResult, AllocError>
     requires ready { IsFor turn.now who share.old }
-    requires begun { T.begun begun ≡ named_by adding.now }
+    requires begun { T.begun begun ≡ new_add adding.now.root adding.now.size }
     requires add { add_of (own share.old) ≡ Some (new_add adding.now.root adding.now.size) }
+    requires blob { IsBlobOf adding.now.version adding.now.root adding.now.size adding.now.blocks }
     requires claimed { BasisHas share.old (λ b. (b.geometry.version ≡ adding.now.version)
         × IsClaimedOf b.claims claimed
         × (length (claimed_gained claimed) + claimed_left claimed
@@ -102,9 +106,11 @@ fn put_and_settle<R: Wait, T: Serves>(
     mut add: T::Admitted,
 ) -> Result<LineResult, AllocError>
     requires ready { IsFor turn.now who share.old }
-    requires admitted { T.admitted add ≡ named_by adding.now }
-    requires add { add_of (own share.old) ≡ Some (admitted_with (named_by adding.now) 0) }
+    requires admitted { T.admitted add ≡ put_of adding.now 0 }
+    requires add { add_of (own share.old) ≡ Some (put_of adding.now 0) }
+    requires none { written (list_of share.old) ≡ [] }
     requires basis { BasisHas share.old (λ b. b.geometry.version ≡ adding.now.version) }
+    requires blob { IsBlobOf adding.now.version adding.now.root adding.now.size adding.now.blocks }
     ensures stays { Stays turn.now share.old share.new }
     ensures line { AddEnds adding.now who (admits adding.now.root adding.now.size) result
         (own share.old) (own share.new) }
@@ -137,16 +143,20 @@ fn put_all<R: Wait, T: Serves>(
     add: &mut T::Admitted,
 ) -> Result<Outcome, AllocError>
     requires ready { IsFor turn.now who share.old }
-    requires admitted { T.admitted add.old ≡ named_by adding.now }
-    requires add { add_of (own share.old) ≡ Some (admitted_with (named_by adding.now) 0) }
+    requires admitted { T.admitted add.old ≡ put_of adding.now 0 }
+    requires add { add_of (own share.old) ≡ Some (put_of adding.now 0) }
+    requires none { written (list_of share.old) ≡ [] }
     requires basis { BasisHas share.old (λ b. b.geometry.version ≡ adding.now.version) }
+    requires blob { IsBlobOf adding.now.version adding.now.root adding.now.size adding.now.blocks }
     ensures stays { Stays turn.now share.old share.new }
-    ensures admitted { T.admitted add.new ≡ named_by adding.now }
-    ensures puts { PutsEnd adding.now who result (own share.old) (own share.new) }
+    ensures puts { PutsEnd adding.now who result (T.admitted add.new)
+        (own share.old) (own share.new) }
+    ensures written { IfAllPut result
+        (BasisHas share.old (λ b. HasWritten b.told adding.now.blocks (list_of share.new))) }
 {
     for index in 0..adding.need() {
         let block = adding.block(index);
-        let outcome = match steps::put(rt, turn, share, who, alloc, add, index, &block) {
+        let outcome = match steps::put(rt, turn, share, who, alloc, add, &block) {
             Ok(outcome) => outcome,
             Err(error) => return Err(error),
         };
@@ -169,10 +179,13 @@ fn settle<R: Wait, T: Serves>(
     add: T::Admitted,
 ) -> Result<LineResult, AllocError>
     requires ready { IsFor turn.now who share.old }
-    requires admitted { T.admitted add ≡ named_by adding.now }
-    requires add { add_of (own share.old) ≡ Some (admitted_with (named_by adding.now)
-        (need_of adding.now.version adding.now.size)) }
-    requires basis { BasisHas share.old (λ b. b.geometry.version ≡ adding.now.version) }
+    requires admitted { T.admitted add
+        ≡ put_of adding.now (need_of adding.now.version adding.now.size) }
+    requires add { add_of (own share.old)
+        ≡ Some (put_of adding.now (need_of adding.now.version adding.now.size)) }
+    requires basis { BasisHas share.old (λ b. (b.geometry.version ≡ adding.now.version)
+        × HasWritten b.told adding.now.blocks (list_of share.old)) }
+    requires blob { IsBlobOf adding.now.version adding.now.root adding.now.size adding.now.blocks }
     ensures stays { Stays turn.now share.old share.new }
     ensures line { AddEnds adding.now who (all_put adding.now) result
         (own share.old) (own share.new) }

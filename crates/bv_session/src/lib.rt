@@ -13,6 +13,7 @@ mod serves;
 mod session;
 mod slots;
 mod steps;
+mod windows;
 
 pub use entry::{Basis, Entry, Told};
 pub use line::run_line;

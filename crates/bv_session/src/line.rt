@@ -34,7 +34,7 @@ pub fn run_line<R: Wait, T: Serves, G: Gate>(
     claims: &Claims,
     version: u32,
     share: &mut Share<T>,
-    slots: &mut Slots<T::Reader>,
+    slots: &mut Slots,
     line: &ScriptLine,
     gate: &G,
 ) -> Result<LineResult, AllocError>

@@ -1,30 +1,37 @@
-//! An open line.
-ghost use Rattle.std.specs.Prelude.{◌≡◌, ℕ, ◌<◌};
-ghost use Rattle.spec_core.specs.declared.act.Act.TheVariants.{Open};
-ghost use Rattle.spec_session.specs.Own.{add_of};
-ghost use Rattle.bv_session.specs.Sessions.{own, IsFor, Stays, Ends};
+//! An open line: the slot holds a blob, and its last window is verified before the line answers.
 
-use crate::LineResult;
-use crate::serves::Serves;
+ghost use Rattle.std.specs.Prelude.{◌≡◌, ℕ, ◌+◌, ◌<◌, [], ◌∷◌, Some, IfOk, IfSome, OnErr};
+ghost use Rattle.spec_core.specs.declared.act.Act.TheVariants.{Close, Open};
+ghost use Rattle.spec_core.specs.declared.reply.Reply.{Reply};
+ghost use Rattle.spec_core.specs.declared.reply.Reply.TheVariants.{Opened};
+ghost use Rattle.spec_session.specs.Own.{add_of, slot_holds};
+ghost use Rattle.bv_session.specs.Sessions.{own, Gains, IsFor, Stays, Ends, EndsAfter};
+
+use crate::reply::result_of;
+use crate::serves::{Answer, Serves};
 use crate::slots::Slots;
+use crate::windows::know_window;
+use crate::{LineResult, steps};
 use bv_io::Gate;
+use bv_merkle::windows;
+use bv_pager::{Reader, Shown};
 use bv_turn::{Share, Turn};
 use spec_core::Who;
 use spec_tree::Digest;
 use std::alloc::{AllocError, Global};
 use std::sync::Wait;
 
-/// Stands in for an open line: there is never memory for it.
+/// An open line. Where the last window isn't read or doesn't verify, the slot is closed again.
 pub fn open<R: Wait, T: Serves, G: Gate>(
-    _rt: &R,
-    _alloc: Global,
+    rt: &R,
+    alloc: Global,
     turn: &Turn<T>,
     share: &mut Share<T>,
     who: Who,
     slot: u32,
     root: Digest,
-    _slots: &mut Slots<T::Reader>,
-    _gate: &G,
+    slots: &mut Slots,
+    gate: &G,
 ) -> Result<LineResult, AllocError>
     requires ready { IsFor turn.now who share.old }
     requires slot { slot < 64 }
@@ -33,5 +40,98 @@ pub fn open<R: Wait, T: Serves, G: Gate>(
         (own share.old) (own share.new) }
     ensures idle { add_of (own share.new) ≡ add_of (own share.old) }
 {
-    Err(AllocError)
+    let answer = match steps::open(rt, turn, share, who, alloc, slot, root) {
+        Ok(answer) => answer,
+        Err(error) => return Err(error),
+    };
+    match answer {
+        Answer::Refused(reply) => Ok(result_of(reply)),
+        Answer::Done(found) => {
+            let (size, kept) = found;
+            match reader_of(alloc, root, size, kept) {
+                Ok(reader) => know_last(rt, alloc, turn, share, who, slot, reader, slots, gate),
+                Err(error) => Err(error),
+            }
+        }
+    }
+}
+
+// The reader that was kept, or one that knows nothing yet.
+pub(crate) fn reader_of(
+    alloc: Global,
+    root: Digest,
+    size: u64,
+    kept: Option<Reader>,
+) -> Result<Reader, AllocError>
+    requires { IfSome kept (λ reader. (reader.root ≡ root) × (reader.size ≡ size)) }
+    ensures { IfOk result (λ reader. (reader.root ≡ root) × (reader.size ≡ size)) }
+{
+    match kept {
+        Some(reader) => Ok(reader),
+        None => {
+            let shown = match Shown::new(alloc, root, size) {
+                Ok(shown) => shown,
+                Err(error) => return Err(error),
+            };
+            Reader::new(alloc, shown)
+        }
+    }
+}
+
+// Goes on once the slot holds the blob: the last window has to be known.
+fn know_last<R: Wait, T: Serves, G: Gate>(
+    rt: &R,
+    alloc: Global,
+    turn: &Turn<T>,
+    share: &mut Share<T>,
+    who: Who,
+    slot: u32,
+    mut reader: Reader,
+    slots: &mut Slots,
+    gate: &G,
+) -> Result<LineResult, AllocError>
+    requires ready { IsFor turn.now who share.old }
+    requires slot { slot < 64 }
+    requires holds { slot_holds slot (own share.old) ≡ Some (reader.root, reader.size) }
+    ensures stays { Stays turn.now share.old share.new }
+    ensures line { (version : ℕ) → EndsAfter version [] who (Open slot reader.root)
+        ((Open slot reader.root, Opened reader.size) ∷ []) result (own share.old) (own share.new) }
+    ensures idle { add_of (own share.new) ≡ add_of (own share.old) }
+{
+    let last = windows(reader.size()) - 1;
+    let found = match know_window(rt, alloc, turn, share, who, slot, &mut reader, last, gate) {
+        Ok(found) => found,
+        Err(error) => return Err(error),
+    };
+    match found {
+        None => {
+            let size = reader.size();
+            slots.put(slot, reader);
+            Ok(LineResult::Opened { size })
+        }
+        Some(result) => shut(rt, alloc, turn, share, who, slot, result),
+    }
+}
+
+// Closes the slot again, and answers with this result.
+fn shut<R: Wait, T: Serves>(
+    rt: &R,
+    alloc: Global,
+    turn: &Turn<T>,
+    share: &mut Share<T>,
+    who: Who,
+    slot: u32,
+    found: LineResult,
+) -> Result<LineResult, AllocError>
+    requires ready { IsFor turn.now who share.old }
+    ensures stays { Stays turn.now share.old share.new }
+    ensures ok { IfOk result (λ r. (r ≡ found)
+        × ((q : Reply) × Gains who (Close slot) q (own share.old) (own share.new))) }
+    ensures err { OnErr result (own share.new ≡ own share.old) }
+    ensures idle { add_of (own share.new) ≡ add_of (own share.old) }
+{
+    match steps::close(rt, turn, share, who, alloc, slot, None) {
+        Ok(_) => Ok(found),
+        Err(error) => Err(error),
+    }
 }

@@ -6,6 +6,7 @@ ghost use Rattle.bv_session.specs.Sessions.{own, IsFor, Stays, DoesOne};
 use crate::reply::result_of;
 use crate::serves::{Outcome, Serves};
 use crate::{LineResult, steps};
+use bv_pager::Reader;
 use bv_turn::{Share, Turn};
 use spec_core::Who;
 use spec_tree::Digest;
@@ -65,7 +66,7 @@ pub fn close<R: Wait, T: Serves>(
     share: &mut Share<T>,
     who: Who,
     slot: u32,
-    pages: Option<T::Reader>,
+    pages: Option<Reader>,
 ) -> Result<LineResult, AllocError>
     requires ready { IsFor turn.now who share.old }
     ensures stays { Stays turn.now share.old share.new }

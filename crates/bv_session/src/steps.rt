@@ -1,18 +1,23 @@
 //! One event in one holding of the lock: each function waits for the lock, makes one event, and
 //! passes the lock on.
-ghost use Rattle.std.specs.Prelude.{◌≡◌, ◌+◌, ◌<◌, ◌≤◌, Some, None, OnErr, IfOk, IfErr, IfSome, IsSomeAnd, length};
+ghost use Rattle.std.specs.Prelude.{◌≡◌, ◌+◌, ◌<◌, ◌≤◌, true, false, [], Some, None, OnErr, IfOk, IfErr, IfSome, IsSomeAnd, length};
 ghost use Rattle.spec_tree.specs.Tree.{need_of, windows_of};
 ghost use Rattle.spec_core.specs.declared.act.Act.TheVariants.{Begin, Admit, Put, Settle, Retire, Open, Fetch, Close, Unlink, Sync, List as ListAll};
 ghost use Rattle.spec_core.specs.declared.reply.Reply.TheVariants.{Granted, Admitted, Written, Published, Retired, Opened, Fetched, Reading, Closed, Unlinked, Synced, Listed};
-ghost use Rattle.spec_session.specs.Own.{new_add, add_of, slot_holds};
+ghost use Rattle.spec_session.specs.Own.{new_add, admitted_add, add_of, slot_holds};
 ghost use Rattle.bv_claims.specs.Tokens.{IsGrantOf, IsClaimedOf, grant_need, claimed_gained, claimed_left};
-ghost use Rattle.bv_session.specs.Events.{IfRefused, IsReadFault, IsRefusal, IfDone, IfRefuses, reply_by, reply_or, IsAdding, IsLook, admitted_with};
+ghost use Rattle.bv_turn.specs.Tokens.{list_of};
+ghost use Rattle.bv_writer.specs.Plans.{IsBlobOf};
+ghost use Rattle.bv_session.specs.Events.{IfRefused, IsReadFault, IsRefusal, IfDone, IfRefuses, reply_by, reply_or, IsUnderWay, IsLook, put_by};
+ghost use Rattle.bv_session.specs.Written.{Writes, written};
+ghost use Rattle.bv_pager.specs.Reading.{FitsIn};
 ghost use Rattle.bv_session.specs.Sessions.{Gains, own, IsFor, BasisHas, Stays};
 
 use crate::serves::{Answer, Outcome, Serves};
 use bv_claims::{Claimed, Grant};
+use bv_pager::Reader;
+use bv_proof::{Block, RawWindow};
 use bv_turn::{Share, Turn};
-use bv_writer::Block;
 use spec_core::{Act, Who};
 use spec_tree::Digest;
 use std::alloc::{AllocError, Global};
@@ -36,7 +41,7 @@ pub fn begin<R: Wait, T: Serves>(
         (own share.old) (own share.new)) }
     ensures refused { IfOk result (λ a. IfRefused a IsRefusal) }
     ensures err { OnErr result (own share.new ≡ own share.old) }
-    ensures done { IfOk result (λ a. IfDone a (λ x. (T.begun x.0 ≡ (root, size))
+    ensures done { IfOk result (λ a. IfDone a (λ x. (T.begun x.0 ≡ new_add root size)
         × BasisHas share.old (λ b. IsGrantOf b.claims x.1
         × (grant_need x.1 ≡ need_of b.geometry.version size)))) }
 {
@@ -57,16 +62,17 @@ pub fn admit<R: Wait, T: Serves>(
     claimed: Claimed,
 ) -> Result<Answer<T::Admitted>, (T::Begun, Claimed)>
     requires ready { IsFor turn.now who share.old }
-    requires add { add_of (own share.old) ≡ Some (new_add (T.begun add).0 (T.begun add).1) }
+    requires add { IsUnderWay (T.begun add) false (own share.old) }
     requires claimed { BasisHas share.old (λ b. IsClaimedOf b.claims claimed
         × (length (claimed_gained claimed) + claimed_left claimed
-        ≡ need_of b.geometry.version (T.begun add).1)) }
+        ≡ need_of b.geometry.version (T.begun add).size)) }
     ensures stays { Stays turn.now share.old share.new }
-    ensures ok { IfOk result (λ a. Gains who (Admit (T.begun add).0) (reply_by (λ x. Admitted) a)
+    ensures ok { IfOk result (λ a. Gains who (Admit (T.begun add).root) (reply_by (λ x. Admitted) a)
         (own share.old) (own share.new)) }
     ensures refused { IfOk result (λ a. IfRefused a IsRefusal) }
     ensures err { OnErr result (own share.new ≡ own share.old) }
-    ensures done { IfOk result (λ a. IfDone a (λ x. T.admitted x ≡ T.begun add)) }
+    ensures done { IfOk result (λ a. IfDone a (λ x. T.admitted x ≡ admitted_add (T.begun add))) }
+    ensures none { IfOk result (λ a. IfDone a (λ x. written (list_of share.new) ≡ [])) }
     ensures back { IfErr result (λ r. (T.begun r.0 ≡ T.begun add) × (r.1 ≡ claimed)) }
 {
     let mut held = turn.hold(rt, share);
@@ -83,22 +89,24 @@ pub fn put<R: Wait, T: Serves>(
     who: Who,
     alloc: Global,
     add: &mut T::Admitted,
-    index: u64,
     block: &Block,
 ) -> Result<Outcome, AllocError>
     requires ready { IsFor turn.now who share.old }
-    requires add { add_of (own share.old) ≡ Some (admitted_with (T.admitted add.old) index) }
-    requires index { BasisHas share.old (λ b.
-        index < need_of b.geometry.version (T.admitted add.old).1) }
+    requires add { IsUnderWay (T.admitted add.old) true (own share.old) }
+    requires next { BasisHas share.old (λ b.
+        (T.admitted add.old).puts < need_of b.geometry.version (T.admitted add.old).size) }
     ensures stays { Stays turn.now share.old share.new }
-    ensures ok { IfOk result (λ a. Gains who (Put index) (reply_or Written a)
+    ensures ok { IfOk result (λ a. Gains who (Put (T.admitted add.old).puts) (reply_or Written a)
         (own share.old) (own share.new)) }
     ensures refused { IfOk result (λ a. IfRefuses a IsRefusal) }
     ensures err { OnErr result (own share.new ≡ own share.old) }
-    ensures same { T.admitted add.new ≡ T.admitted add.old }
+    ensures add { IfOk result (λ a. T.admitted add.new ≡ put_by a (T.admitted add.old)) }
+    ensures same { OnErr result (T.admitted add.new ≡ T.admitted add.old) }
+    ensures wrote { BasisHas share.old (λ b. IfOk result (λ a. Writes b.told a block.now
+        (list_of share.old) (list_of share.new))) }
 {
     let mut held = turn.hold(rt, share);
-    let answer = held.value.put(alloc, who, add, index, block);
+    let answer = held.value.put(alloc, who, add, block);
     turn.pass(share, held);
     answer
 }
@@ -113,10 +121,14 @@ pub fn settle<R: Wait, T: Serves>(
     add: T::Admitted,
 ) -> Result<Outcome, T::Admitted>
     requires ready { IsFor turn.now who share.old }
-    requires add { BasisHas share.old (λ b. add_of (own share.old)
-        ≡ Some (admitted_with (T.admitted add) (need_of b.geometry.version (T.admitted add).1))) }
+    requires add { IsUnderWay (T.admitted add) true (own share.old) }
+    requires all { BasisHas share.old (λ b.
+        (T.admitted add).puts ≡ need_of b.geometry.version (T.admitted add).size) }
+    requires written { BasisHas share.old (λ b. IfSome b.told (λ d.
+        IsBlobOf b.geometry.version (T.admitted add).root (T.admitted add).size
+        (written (list_of share.old)))) }
     ensures stays { Stays turn.now share.old share.new }
-    ensures ok { IfOk result (λ a. Gains who (Settle (T.admitted add).0) (reply_or Published a)
+    ensures ok { IfOk result (λ a. Gains who (Settle (T.admitted add).root) (reply_or Published a)
         (own share.old) (own share.new)) }
     ensures refused { IfOk result (λ a. IfRefuses a IsRefusal) }
     ensures err { OnErr result (own share.new ≡ own share.old) }
@@ -138,12 +150,12 @@ pub fn retire_begun<R: Wait, T: Serves>(
     claimed: Claimed,
 )
     requires ready { IsFor turn.now who share.old }
-    requires add { add_of (own share.old) ≡ Some (new_add (T.begun add).0 (T.begun add).1) }
+    requires add { IsUnderWay (T.begun add) false (own share.old) }
     requires claimed { BasisHas share.old (λ b. IsClaimedOf b.claims claimed
         × (length (claimed_gained claimed) + claimed_left claimed
-        ≡ need_of b.geometry.version (T.begun add).1)) }
+        ≡ need_of b.geometry.version (T.begun add).size)) }
     ensures stays { Stays turn.now share.old share.new }
-    ensures ok { Gains who (Retire (T.begun add).0) Retired (own share.old) (own share.new) }
+    ensures ok { Gains who (Retire (T.begun add).root) Retired (own share.old) (own share.new) }
 {
     let mut held = turn.hold(rt, share);
     held.value.retire_begun(who, add, claimed);
@@ -159,9 +171,9 @@ pub fn retire<R: Wait, T: Serves>(
     add: T::Admitted,
 )
     requires ready { IsFor turn.now who share.old }
-    requires add { IsAdding (T.admitted add) (own share.old) }
+    requires add { IsUnderWay (T.admitted add) true (own share.old) }
     ensures stays { Stays turn.now share.old share.new }
-    ensures ok { Gains who (Retire (T.admitted add).0) Retired (own share.old) (own share.new) }
+    ensures ok { Gains who (Retire (T.admitted add).root) Retired (own share.old) (own share.new) }
 {
     let mut held = turn.hold(rt, share);
     held.value.retire(who, add);
@@ -177,7 +189,7 @@ pub fn open<R: Wait, T: Serves>(
     alloc: Global,
     slot: u32,
     root: Digest,
-) -> Result<Answer<(u64, Option<T::Reader>)>, AllocError>
+) -> Result<Answer<(u64, Option<Reader>)>, AllocError>
     requires ready { IsFor turn.now who share.old }
     requires slot { slot < 64 }
     ensures stays { Stays turn.now share.old share.new }
@@ -185,7 +197,7 @@ pub fn open<R: Wait, T: Serves>(
         (own share.old) (own share.new)) }
     ensures refused { IfOk result (λ a. IfRefused a IsRefusal) }
     ensures err { OnErr result (own share.new ≡ own share.old) }
-    ensures done { IfOk result (λ a. IfDone a (λ x. IfSome x.1 (λ p. T.blob p ≡ (root, x.0)))) }
+    ensures done { IfOk result (λ a. IfDone a (λ x. IfSome x.1 (λ p. (p.root ≡ root) × (p.size ≡ x.0)))) }
 {
     let mut held = turn.hold(rt, share);
     let answer = held.value.open(alloc, who, slot, root);
@@ -201,7 +213,7 @@ pub fn close<R: Wait, T: Serves>(
     who: Who,
     alloc: Global,
     slot: u32,
-    pages: Option<T::Reader>,
+    pages: Option<Reader>,
 ) -> Result<Outcome, AllocError>
     requires ready { IsFor turn.now who share.old }
     ensures stays { Stays turn.now share.old share.new }
@@ -250,7 +262,7 @@ pub fn fetch<R: Wait, T: Serves>(
     alloc: Global,
     slot: u32,
     window: u64,
-) -> Result<Answer<T::Raw>, AllocError>
+) -> Result<Answer<RawWindow>, AllocError>
     requires ready { IsFor turn.now who share.old }
     requires window { IsSomeAnd (slot_holds slot (own share.old))
         (λ blob. window < windows_of blob.1) }
@@ -261,7 +273,7 @@ pub fn fetch<R: Wait, T: Serves>(
     ensures err { OnErr result (own share.new ≡ own share.old) }
     ensures done { IfOk result (λ a. IfDone a (λ x.
         IfSome (slot_holds slot (own share.old))
-        (λ b. T.Fits x b window))) }
+        (λ blob. (x.window ≡ window) × FitsIn blob.1 x))) }
 {
     let mut held = turn.hold(rt, share);
     let answer = held.value.fetch(alloc, who, slot, window);
