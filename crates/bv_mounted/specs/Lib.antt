@@ -1,0 +1,2 @@
+-- What mounting a volume does.
+pub mod Mounts
