@@ -1,8 +1,8 @@
 -- The rows of a store's calls: a put, a sync and a checkpoint, over what the store shows.
-use Rattle.std.proofs.Common.{◌≡◌, ◌≢◌, ◌<◌, ◌≤◌, ◌^◌, ℕ, ◌+◌, ◌-◌, ◌%◌, List, [], ◌∷◌, ◌++◌, length, true, Option, Some, None, Result, Ok, Err, refl, ap, sym, ◌∙◌, subst, inl, inr, arith, append_assoc, length-append}
+use Rattle.std.proofs.Common.{◌≡◌, ◌≢◌, ◌<◌, ℕ, ◌+◌, List, [], ◌∷◌, ◌++◌, true, Option, Some, None, Result, Ok, Err, refl, ap, sym, ◌∙◌, subst, inl, arith, append_assoc}
 use Rattle.std.proofs.lemmas.List.{append-nil}
 use Rattle.std.proofs.Math.Nat.{mod-eq_of_lt}
-use Rattle.std.specs.Prelude.{Contains, option_map, IfSome, OnOk}
+use Rattle.std.specs.Prelude.{Contains, IfSome, OnOk}
 use Rattle.spec_disk.specs.declared.event.Event.{Event}
 use Rattle.spec_disk.specs.declared.event.Event.TheVariants as device
 use Rattle.spec_disk.specs.Disk.{Blocks, block}
@@ -10,7 +10,7 @@ use Rattle.spec_disk.specs.Images.{IsSettled}
 use Rattle.spec_disk.proofs.ImageLemmas.{IsSettled-push_sync}
 use Rattle.spec_record.specs.declared.geometry.Geometry.{Geometry}
 use Rattle.spec_record.specs.declared.info.Info.{Info}
-use Rattle.spec_record.specs.Geometry.{IsGeometry, block_at, info_at, ring_slots, meta_blocks}
+use Rattle.spec_record.specs.Geometry.{block_at, info_at, ring_slots}
 use Rattle.spec_record.specs.Info.{info_bytes}
 use Rattle.spec_record.specs.Entry.{Entry}
 use Rattle.spec_image.specs.Chain.{BlobRecord}
@@ -18,21 +18,20 @@ use Rattle.spec_image.proofs.WellFormedLemmas.{well_formed_parts}
 use Rattle.spec_meta.specs.Blocks.{metadata_at}
 use Rattle.spec_rest.specs.Rest.{Map, HoldsEither}
 use Rattle.bv_device.specs.Told.{Disk, disk_with, now_of}
-use Rattle.bv_device.specs.Plan.{a_write, a_sync, writes, with_events, Follows}
+use Rattle.bv_device.specs.Plan.{a_write, a_sync, writes}
 use Rattle.bv_device.specs.Seen.{Seen, Performs}
 use Rattle.bv_journal.specs.Holds.{entries_of, with_entry}
-use Rattle.bv_journal.specs.Plans.{info_plan, checkpoint_plan}
-use Rattle.bv_journal.specs.Rests.{slot_behind, number_behind}
+use Rattle.bv_journal.specs.Plans.{checkpoint_plan}
+use Rattle.bv_journal.specs.Rests.{slot_behind}
 use Rattle.bv_journal.specs.Stops.{Stops}
-use Rattle.bv_ring.specs.Cursor.{Cursor, StandsBehind, emptied, info_at_cursor}
-use Rattle.bv_store.specs.Stored.{Stored, Grows, OneAtOk, SyncedAtOk, SameData, LeavesEither, blocks_in}
+use Rattle.bv_ring.specs.Cursor.{StandsBehind, emptied, info_at_cursor}
+use Rattle.bv_store.specs.Stored.{Grows, OneAtOk, SyncedAtOk, SameData, LeavesEither, blocks_in}
 use Rattle.bv_journaled.specs.Kept.{records_at, IsOf, IsFree, Keeps}
 use Rattle.bv_journaled.specs.Standing.{Standing, stored_of, IsHeld, IsStanding, RestsOn, Both}
 use Rattle.bv_journaled.proofs.CallLemmas.{put_done, put_stops, sync_done, sync_stops, checkpoint_done, checkpoint_stops}
 use Rattle.bv_journaled.proofs.PlacedLemmas.{placed_blocks}
-use Rattle.bv_journaled.proofs.QuietLemmas.{written_other, sync_spares, checkpoint_spares}
+use Rattle.bv_journaled.proofs.QuietLemmas.{written_other, checkpoint_spares}
 use Rattle.bv_journaled.proofs.RowLemmas.{run_grows, told_rests, rests_told, more_leaves, more_spares, more_ok, ok_from}
-use Rattle.bv_journaled.proofs.RunLemmas.{ok_told}
 use Rattle.bv_journaled.proofs.StopLemmas.{whole_checkpoint}
 
 -- the metadata in memory has its blobs' blocks among those that are placed

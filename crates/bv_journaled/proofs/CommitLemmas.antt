@@ -1,47 +1,43 @@
 -- An entry: a sync, room in the ring, and its blocks.
-use Rattle.std.proofs.Common.{◌≡◌, ◌≢◌, ◌<◌, ◌≤◌, ◌⊎◌, ◌^◌, ℕ, ◌+◌, ◌-◌, ◌%◌, List, [], ◌∷◌, ◌++◌, length, map, Bool, true, false, cond, leb, Option, Some, None, refl, ap, sym, ◌∙◌, subst, inl, inr, arith}
+use Rattle.std.proofs.Common.{◌≡◌, ◌<◌, ◌≤◌, ◌⊎◌, ℕ, ◌+◌, List, [], ◌++◌, length, map, Bool, true, false, cond, leb, Option, Some, None, refl, ap, sym, ◌∙◌, subst, inl, inr, arith}
 use Rattle.std.proofs.lemmas.List.{append-nil}
 use Rattle.std.proofs.Math.Nat.{mod-eq_of_lt}
-use Rattle.std.specs.Prelude.{Contains, All, IfSome, IsSomeAnd}
+use Rattle.std.specs.Prelude.{Contains, IfSome, IsSomeAnd}
 use Rattle.spec_tree.specs.declared.Digest.{Digest}
 use Rattle.spec_tree.specs.declared.blob.Blob.{Blob}
 use Rattle.spec_disk.specs.declared.event.Event.{Event}
 use Rattle.spec_disk.specs.Disk.{Blocks, block}
-use Rattle.spec_disk.specs.Images.{IsSettled, written_to}
 use Rattle.spec_record.specs.declared.geometry.Geometry.{Geometry}
 use Rattle.spec_record.specs.declared.info.Info.{Info}
-use Rattle.spec_record.specs.Field.{IsBlock}
-use Rattle.spec_record.specs.Geometry.{IsGeometry, block_at, ring_slots, meta_blocks}
+use Rattle.spec_record.specs.Geometry.{block_at, ring_slots, meta_blocks}
 use Rattle.spec_record.specs.Entry.{Entry}
-use Rattle.spec_record.specs.EntryBlocks.{IsEntry, entry_blocks, entry_slots}
+use Rattle.spec_record.specs.EntryBlocks.{IsEntry, entry_blocks}
 use Rattle.spec_record.proofs.SpelledEntry.{length-entry_blocks}
 use Rattle.spec_record.proofs.TestLemmas.{at_most}
 use Rattle.spec_image.specs.Blobs.{value_of}
 use Rattle.spec_image.specs.Chain.{BlobRecord}
-use Rattle.spec_image.specs.Replay.{slots_of_all}
-use Rattle.spec_image.specs.Stored.{blocks_of, stored}
-use Rattle.spec_image.proofs.TornLemmas.{mod_shift}
+use Rattle.spec_image.specs.Stored.{stored}
 use Rattle.spec_core.specs.Log.{changed}
 use Rattle.spec_core.specs.declared.map_change.MapChange.{MapChange}
 use Rattle.spec_crash.specs.Crash.{HoldsWhole}
 use Rattle.spec_meta.specs.Blocks.{metadata_at}
-use Rattle.spec_meta.specs.Change.{Change as MetaChange, Publish as Published, after_all, log_of_all}
+use Rattle.spec_meta.specs.Change.{Publish as Published, after_all, log_of_all}
 use Rattle.spec_rest.specs.Rest.{Map, HoldsEither}
 use Rattle.bv_device.specs.Told.{Disk, disk_with, now_of}
 use Rattle.bv_device.specs.Plan.{a_sync, IsPlan}
 use Rattle.bv_device.proofs.PlanLemmas.{disk_with-nil, disk_with-append, IsPlan-append}
-use Rattle.bv_journal.specs.Holds.{entries_of, with_entry, patched as replayed}
+use Rattle.bv_journal.specs.Holds.{entries_of, patched as replayed}
 use Rattle.bv_journal.specs.Plans.{ring_writes, checkpoint_plan}
 use Rattle.bv_journal.specs.Rests.{IsHead, IsNext, slot_behind, number_behind}
 use Rattle.bv_journal.specs.Stops.{Stops}
 use Rattle.bv_journal.proofs.DiskLemmas.{now-sync, pending-sync}
 use Rattle.bv_journal.proofs.StopLemmas.{Stops-none, Stops-append, Stops-weaker}
-use Rattle.bv_ring.specs.Cursor.{Cursor, StandsBehind, past, emptied, info_at_cursor}
+use Rattle.bv_ring.specs.Cursor.{Cursor, StandsBehind, emptied, info_at_cursor}
 use Rattle.bv_store.specs.declared.publication.Publication.{Publication}
-use Rattle.bv_store.specs.Stored.{HasBlob, blocks_on, IsThere, entry_changes}
+use Rattle.bv_store.specs.Stored.{HasBlob, blocks_on, entry_changes}
 use Rattle.bv_journaled.specs.declared.prepared.Prepared.{Prepared}
-use Rattle.bv_journaled.specs.Kept.{records_at, map_at, IsOf, IsKept, KeepsMap, Keeps}
-use Rattle.bv_journaled.specs.Standing.{Standing, stored_of, asked, IsStanding, IsRecordOf, IsPrepared, RestsOn}
+use Rattle.bv_journaled.specs.Kept.{IsKept, KeepsMap, Keeps}
+use Rattle.bv_journaled.specs.Standing.{Standing, asked, IsStanding, IsRecordOf, IsPrepared, RestsOn}
 use Rattle.bv_journaled.specs.Entering.{room_plan, with_room, entry_plan}
 use Rattle.bv_journaled.specs.Held.{kept_held}
 use Rattle.bv_journaled.proofs.CallLemmas.{sync_done, sync_stops, checkpoint_done, checkpoint_stops, append_stops, append_done}

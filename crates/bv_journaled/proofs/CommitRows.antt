@@ -1,38 +1,33 @@
 -- The row of a commit, over what the store shows.
-use Rattle.std.proofs.Common.{◌≡◌, ◌≢◌, ◌<◌, ◌≤◌, ◌⊎◌, ℕ, ◌+◌, ◌-◌, ◌%◌, List, [], ◌∷◌, ◌++◌, length, map, Bool, true, false, cond, leb, Option, Some, None, Result, Ok, Err, refl, ap, sym, ◌∙◌, subst, inl, inr, arith, length-append}
+use Rattle.std.proofs.Common.{◌≡◌, ◌≤◌, ◌⊎◌, ℕ, ◌+◌, ◌%◌, List, [], ◌∷◌, ◌++◌, length, Bool, true, false, cond, leb, Option, Some, None, Result, Ok, Err, refl, ap, sym, ◌∙◌, subst, inl, inr, arith, length-append}
 use Rattle.std.proofs.lemmas.List.Sums.{sum_by-append, sum_by-cons}
 use Rattle.std.specs.Prelude.{Contains, option_map, IfSome, IsSomeAnd, is_some, OnOk, OnErr}
 use Rattle.spec_disk.specs.declared.event.Event.{Event}
-use Rattle.spec_disk.specs.Disk.{Blocks, block}
 use Rattle.spec_record.specs.declared.geometry.Geometry.{Geometry}
 use Rattle.spec_record.specs.declared.info.Info.{Info}
-use Rattle.spec_record.specs.declared.extent.Extent.{Extent}
 use Rattle.spec_record.specs.Geometry.{block_at, ring_slots}
 use Rattle.spec_record.specs.Entry.{Entry}
 use Rattle.spec_record.specs.EntryBlocks.{entry_slots}
 use Rattle.spec_image.specs.Chain.{BlobRecord}
 use Rattle.spec_image.specs.Metadata.{Metadata}
 use Rattle.spec_image.specs.Replay.{slots_of_all}
-use Rattle.spec_image.specs.Stored.{blocks_of}
 use Rattle.spec_image.specs.WellFormed.{records_of, is_well_formed}
 use Rattle.spec_image.proofs.TornLemmas.{mod_shift}
 use Rattle.spec_image.proofs.WellFormedLemmas.{well_formed_parts}
 use Rattle.spec_core.specs.Log.{changed}
 use Rattle.spec_meta.specs.Blocks.{metadata_at, patched}
-use Rattle.spec_meta.specs.Change.{Change as MetaChange, Publish as Published, Purge as Purged, after_all}
+use Rattle.spec_meta.specs.Change.{Change as MetaChange, Purge as Purged, after_all}
 use Rattle.spec_meta.proofs.ChangeLemmas.{changes_keep}
 use Rattle.spec_rest.specs.Rest.{Map}
-use Rattle.bv_device.specs.Told.{Disk, disk_with, now_of}
-use Rattle.bv_device.specs.Plan.{Follows}
+use Rattle.bv_device.specs.Told.{Disk}
 use Rattle.bv_device.specs.Seen.{Seen, Performs}
-use Rattle.bv_journal.specs.Holds.{entries_of, with_entry}
 use Rattle.bv_ring.specs.Cursor.{Cursor, StandsBehind, past, emptied}
 use Rattle.bv_store.specs.declared.publication.Publication.{Publication}
 use Rattle.bv_store.specs.Stored.{Entry as Asked, Counts, Grows, SameData, LeavesThird, IsThere, HasBlob, blocks_on, blocks_in, entry_changes, nodes_taken, placed_after, taken_by}
 use Rattle.bv_txn.specs.Metas.{MetaBlocks}
 use Rattle.bv_journaled.specs.declared.prepared.Prepared.{Prepared}
 use Rattle.bv_journaled.specs.Kept.{records_at, IsOf, Keeps}
-use Rattle.bv_journaled.specs.Standing.{Standing, placed_of, placed_at, stored_of, asked, freed_by, IsHeld, IsStanding, IsRecordOf, IsPrepared, RestsOn, Both}
+use Rattle.bv_journaled.specs.Standing.{Standing, placed_of, placed_at, stored_of, asked, IsHeld, IsStanding, IsRecordOf, IsPrepared, Both}
 use Rattle.bv_journaled.specs.Entering.{with_room, entry_plan, StopsShort}
 use Rattle.bv_journaled.proofs.CommitLemmas.{entry_is_plan, entry_spares, entry_stops, entry_done, roomy, enough, long}
 use Rattle.bv_journaled.proofs.EntryLemmas.{of_changes}

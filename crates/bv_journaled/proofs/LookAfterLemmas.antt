@@ -1,7 +1,6 @@
 -- What is found after purges, and one purge more.
-use Rattle.std.proofs.Common.{◌≡◌, ◌<◌, ◌≤◌, ℕ, ◌+◌, List, [], ◌∷◌, ◌++◌, length, take, get_or, Bool, true, false, cond, ◌||◌, Option, Some, None, refl, ap, sym, ◌∙◌, subst, inl, inr, arith}
+use Rattle.std.proofs.Common.{◌≡◌, ◌<◌, ℕ, ◌+◌, List, [], ◌∷◌, ◌++◌, length, take, get_or, Bool, true, false, cond, ◌||◌, Option, Some, None, refl, ap, sym, ◌∙◌, subst, inl, inr, arith}
 use Rattle.std.proofs.lemmas.List.{append_assoc, append-nil, take_more}
-use Rattle.std.specs.Prelude.{find}
 use Rattle.std.specs.List.{list_any}
 use Rattle.spec_tree.specs.declared.Digest.{Digest}
 use Rattle.spec_tree.specs.Order.{same_digest}
@@ -14,9 +13,9 @@ use Rattle.spec_image.proofs.SoundLemmas.{one_root}
 use Rattle.spec_image.proofs.WellFormedLemmas.{well_formed_parts}
 use Rattle.spec_core.proofs.Holding.{same_self}
 use Rattle.spec_laws.proofs.RecordLemmas.{known_blob}
-use Rattle.spec_meta.specs.Change.{Change, Purge, purged, after_all}
+use Rattle.spec_meta.specs.Change.{Change, purged, after_all}
 use Rattle.spec_meta.proofs.Counting.{count, true_or_false, Inserted, sum_inserted}
-use Rattle.spec_meta.proofs.MapLemmas.{named, found_inserted, none_named}
+use Rattle.spec_meta.proofs.MapLemmas.{found_inserted, none_named}
 use Rattle.spec_meta.proofs.PurgeLemmas.{read_at, purge_records}
 use Rattle.bv_journaled.specs.Purging.{purge_change, purge_changes}
 use Rattle.bv_journaled.proofs.PurgingLemmas.{after_append, one_formed}

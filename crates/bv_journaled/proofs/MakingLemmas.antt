@@ -1,5 +1,5 @@
 -- The changes of an entry make what it was asked for.
-use Rattle.std.proofs.Common.{◌≡◌, ◌≤◌, ◌<◌, ◌^◌, ℕ, ◌+◌, ◌*◌, ◌/◌, List, [], ◌∷◌, ◌++◌, length, true, Option, Some, None, refl, ap, sym, ◌∙◌, subst, inl, inr, arith}
+use Rattle.std.proofs.Common.{◌≡◌, ◌≤◌, ℕ, ◌+◌, ◌*◌, List, [], ◌∷◌, ◌++◌, length, true, Option, Some, None, refl, ap, sym, ◌∙◌, subst, inl, inr, arith}
 use Rattle.std.proofs.lemmas.List.{append-nil}
 use Rattle.std.specs.Prelude.{Contains, IfSome}
 use Rattle.std.specs.BTreeMap.{insert_entry}
@@ -23,8 +23,7 @@ use Rattle.spec_meta.specs.Fits.{FitsPublish}
 use Rattle.spec_meta.proofs.Counting.{Inserted}
 use Rattle.spec_meta.proofs.PublishLemmas.{publish_records}
 use Rattle.bv_store.specs.declared.publication.Publication.{Publication}
-use Rattle.bv_store.specs.Stored.{Entry, CanPublish, CanWrite, HasNodes, blocks_in, placed_without}
-use Rattle.bv_txn.specs.Metas.{MetaBlocks}
+use Rattle.bv_store.specs.Stored.{Entry, CanPublish, CanWrite, HasNodes}
 use Rattle.bv_journaled.specs.Preparing.{Makes}
 use Rattle.bv_journaled.specs.Publishing.{record_of, CanTake}
 use Rattle.bv_journaled.specs.Purging.{purge_change, purge_changes}
@@ -39,20 +38,23 @@ none_in_nil : (c : Change) → ¬ Contains [] c
 none_in_nil c (k, below, is) = omega (arith, below)
 
 -- a purge publishes nothing
-not_published : (o : Option BlobRecord) (rest : List Change) (r : BlobRecord) → (Contains rest (Publish r) → ⊥) → Contains (purge_change o ++ rest) (Publish r) → ⊥
+not_published : (o : Option BlobRecord) (rest : List Change) (r : BlobRecord) → (Contains rest (Publish r) → ⊥)
+    → Contains (purge_change o ++ rest) (Publish r) → ⊥
 not_published None rest r later c = later c
 not_published (Some b) rest r later c = elim (Contains-cons_cases (Purge b.nodes b.extents) rest (Publish r) c) [
   | inl is ↦ cc
   | inr more ↦ later more
 ]
 
-pub purges_publish_nothing : (m : Metadata) (roots : List Digest) (r : BlobRecord) → Contains (purge_changes m roots) (Publish r) → ⊥
+pub purges_publish_nothing : (m : Metadata) (roots : List Digest) (r : BlobRecord)
+    → Contains (purge_changes m roots) (Publish r) → ⊥
 purges_publish_nothing m [] r c = none_in_nil (Publish r) c
 purges_publish_nothing m (root ∷ roots) r c =
     not_published (blob_in m root) (purge_changes (after_all m (purge_change (blob_in m root))) roots) r
     (purges_publish_nothing (after_all m (purge_change (blob_in m root))) roots r) c
 
-pub purges_make : (m : Metadata) (roots : List Digest) → is_well_formed m ≡ true → Makes m (record { purged = roots; published = None }) (purge_changes m roots)
+pub purges_make : (m : Metadata) (roots : List Digest) → is_well_formed m ≡ true
+    → Makes m (record { purged = roots; published = None }) (purge_changes m roots)
 purges_make m roots formed =
     let p : Purges m roots (purge_changes m roots) = purges_go m roots formed in
     record {
@@ -63,14 +65,16 @@ purges_make m roots formed =
       nodes = omega (arith, p.nodes);
     }
 
-pub purges_made : (m : Metadata) (roots : List Digest) (o : Option Publication) (cs : List Change) → is_well_formed m ≡ true → o ≡ None → cs ≡ purge_changes m roots → Makes m (record { purged = roots; published = o }) cs
+pub purges_made : (m : Metadata) (roots : List Digest) (o : Option Publication) (cs : List Change) → is_well_formed m ≡ true
+    → o ≡ None → cs ≡ purge_changes m roots → Makes m (record { purged = roots; published = o }) cs
 purges_made m roots o cs formed none is =
     subst (λ (x : Option Publication). Makes m (record { purged = roots; published = x }) cs) (sym none)
     (subst (λ (l : List Change). Makes m (record { purged = roots; published = None }) l) (sym is) (purges_make m roots formed))
 
 -- ---- a publication behind them
 
-inserted : (m : Metadata) (b : BlobRecord) → WellFormed m → FitsPublish m b → Inserted b (records_of m) (records_of (published m b))
+inserted : (m : Metadata) (b : BlobRecord) → WellFormed m → FitsPublish m b
+    → Inserted b (records_of m) (records_of (published m b))
 inserted m b w fit = with_nodes b.nodes refl
   where
     with_nodes : (ns : List ℕ) → b.nodes ≡ ns → Inserted b (records_of m) (records_of (published m b))
@@ -80,7 +84,9 @@ inserted m b w fit = with_nodes b.nodes refl
 same_record : (a b : BlobRecord) → Publish a ≡ Publish b → a ≡ b
 same_record a b e = cc
 
-module _ (m : Metadata) (roots : List Digest) (p : Publication) (ks : List ℕ) (formed : is_well_formed m ≡ true) (fit : FitsPublish (after_all m (purge_changes m roots)) (record_of p ks)) (blocks_are : places (record_of p ks) ≡ p.blocks.items) where
+module _ (m : Metadata) (roots : List Digest) (p : Publication) (ks : List ℕ) (formed : is_well_formed m ≡ true)
+    (fit : FitsPublish (after_all m (purge_changes m roots)) (record_of p ks))
+    (blocks_are : places (record_of p ks) ≡ p.blocks.items) where
   abbrev cs : List Change
   cs = purge_changes m roots
 
@@ -95,14 +101,20 @@ module _ (m : Metadata) (roots : List Digest) (p : Publication) (ks : List ℕ) 
 
   publishes_it : (r : BlobRecord) → Contains (purge_changes m roots ++ Publish (record_of p ks) ∷ []) (Publish r) → IsRecordOf r p
   publishes_it r c = elim (one_or_other cs [] (Publish b) (Publish r) c) [
-    | inl is ↦ subst (λ (x : BlobRecord). IsRecordOf x p) (sym (same_record r b is)) (record { root = refl; blob = refl; blocks = blocks_are })
-    | inr before ↦ absurd (purges_publish_nothing m roots r (subst (λ (l : List Change). Contains l (Publish r)) (append-nil cs) before))
+    | inl is ↦
+        subst (λ (x : BlobRecord). IsRecordOf x p) (sym (same_record r b is))
+        (record { root = refl; blob = refl; blocks = blocks_are })
+    | inr before ↦
+        let of_purges = subst (λ (l : List Change). Contains l (Publish r)) (append-nil cs) before in
+        absurd (purges_publish_nothing m roots r of_purges)
   ]
 
-  pub publish_makes : Makes m (record { purged = roots; published = Some p }) (purge_changes m roots ++ Publish (record_of p ks) ∷ [])
+  pub publish_makes : Makes m (record { purged = roots; published = Some p })
+      (purge_changes m roots ++ Publish (record_of p ks) ∷ [])
   publish_makes =
       let first : Purges m roots cs = purges_go m roots formed in
-      let i : Inserted b (records_of late) (records_of (published late b)) = inserted late b (well_formed_parts late first.formed) fit in
+      let i : Inserted b (records_of late) (records_of (published late b)) =
+      inserted late b (well_formed_parts late first.formed) fit in
       let joined : after_all m (cs ++ one) ≡ published late b = after_append m cs one in
       record {
         fit = fit_append m cs one first.fit (fit, tt);
@@ -113,16 +125,22 @@ module _ (m : Metadata) (roots : List Digest) (p : Publication) (ks : List ℕ) 
             ∙ placed_inserted b (records_of late) (records_of (published late b)) i fit.new_root
             ∙ (λ t. insert_entry digest_cmp (first.placed t) p.root (blocks_are t));
         nodes =
-            let a : (after_all m (cs ++ one)).super.used_nodes ≡ late.super.used_nodes + length ks = ap (λ (x : Metadata). x.super.used_nodes) joined in
+            let a : (after_all m (cs ++ one)).super.used_nodes ≡ late.super.used_nodes + length ks =
+            ap (λ (x : Metadata). x.super.used_nodes) joined in
             omega (arith, a, first.nodes, fit.node_count);
       }
 
 -- ---- what a store knows of a publication
 
-pub can_take : (s : Standing) (e : Entry) → CanWrite s.meta.geometry (placed_at s.meta.geometry s.meta.blocks) e → IfSome e.published (HasNodes (stored_of s)) → IfSome e.published (λ p. (b : ℕ) → Contains p.blocks.items b → ¬ IsHeld s b) → IfSome e.published (CanTake s.meta)
+pub can_take : (s : Standing) (e : Entry) → CanWrite s.meta.geometry (placed_at s.meta.geometry s.meta.blocks) e
+    → IfSome e.published (HasNodes (stored_of s))
+    → IfSome e.published (λ p. (b : ℕ) → Contains p.blocks.items b → ¬ IsHeld s b)
+    → IfSome e.published (CanTake s.meta)
 can_take s e can room free = each e.published can room free
   where
-    each : (o : Option Publication) → IfSome o (CanPublish s.meta.geometry (placed_at s.meta.geometry s.meta.blocks)) → IfSome o (HasNodes (stored_of s)) → IfSome o (λ p. (b : ℕ) → Contains p.blocks.items b → ¬ IsHeld s b) → IfSome o (CanTake s.meta)
+    each : (o : Option Publication) → IfSome o (CanPublish s.meta.geometry (placed_at s.meta.geometry s.meta.blocks))
+        → IfSome o (HasNodes (stored_of s)) → IfSome o (λ p. (b : ℕ) → Contains p.blocks.items b → ¬ IsHeld s b)
+        → IfSome o (CanTake s.meta)
     each None can room free = tt
     each (Some p) can room free = record { can = can; free = λ b c placed. free b c (inl placed); room = room }
 

@@ -1,9 +1,8 @@
 -- A store as a mount begins with it.
-use Rattle.std.proofs.Common.{◌≡◌, ◌≤◌, ℕ, List, [], ◌++◌, length, true, Option, Some, None, refl, ap, sym, ◌∙◌, subst, inl}
-use Rattle.std.specs.Prelude.{Contains, IfSome}
+use Rattle.std.proofs.Common.{◌≡◌, ◌≤◌, ℕ, [], length, true, Option, Some, None, refl, subst, inl}
+use Rattle.std.specs.Prelude.{IfSome}
 use Rattle.spec_record.specs.declared.info.Info.{Info}
 use Rattle.spec_record.specs.Geometry.{IsGeometry, meta_blocks, total_blocks}
-use Rattle.spec_image.specs.Chain.{BlobRecord}
 use Rattle.spec_image.specs.WellFormed.{is_well_formed}
 use Rattle.spec_image.proofs.WellFormedLemmas.{well_formed_parts}
 use Rattle.spec_meta.specs.Blocks.{metadata_at}
@@ -12,7 +11,7 @@ use Rattle.bv_device.specs.Seen.{Seen}
 use Rattle.bv_journal.specs.Rests.{AtRest}
 use Rattle.bv_ring.specs.Cursor.{Cursor, IsCursor, StandsBehind}
 use Rattle.bv_txn.specs.Metas.{MetaBlocks}
-use Rattle.bv_journaled.specs.Kept.{records_at, map_at, IsOf, KeepsMap}
+use Rattle.bv_journaled.specs.Kept.{map_at, KeepsMap}
 use Rattle.bv_journaled.specs.Standing.{Standing, stored_of, IsStanding, RestsOn, Both}
 use Rattle.bv_journaled.proofs.PlacedLemmas.{placed_blocks}
 use Rattle.bv_journaled.proofs.RowLemmas.{rests_told}

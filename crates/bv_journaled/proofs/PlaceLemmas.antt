@@ -1,10 +1,9 @@
 -- The data blocks of the extents of a chain.
-use Rattle.std.proofs.Common.{◌≡◌, ◌<◌, ◌≤◌, ◌^◌, ℕ, zero, suc, ◌+◌, List, [], ◌∷◌, ◌++◌, length, Option, Some, None, Result, Ok, Err, refl, ap, sym, ◌∙◌, subst, arith}
+use Rattle.std.proofs.Common.{◌≡◌, ◌≤◌, ◌^◌, ℕ, zero, suc, ◌+◌, List, [], ◌∷◌, ◌++◌, Some, Result, Ok, Err, ap, ◌∙◌, arith}
 use Rattle.std.specs.Prelude.{All, option_map, IfOk}
-use Rattle.std.specs.List.{range_with_len, AllByRecursion}
+use Rattle.std.specs.List.{range_with_len}
 use Rattle.spec_tree.specs.declared.Digest.{Digest}
 use Rattle.spec_record.specs.declared.extent.Extent.{Extent}
-use Rattle.spec_record.specs.Extent.{is_extent}
 use Rattle.spec_image.specs.Chain.{BlobRecord}
 use Rattle.spec_image.specs.Metadata.{Metadata}
 use Rattle.spec_image.specs.Stored.{blocks_of}

@@ -1,9 +1,8 @@
 -- The data blocks of the blobs of some metadata, by their roots.
-use Rattle.std.proofs.Common.{◌≡◌, ◌<◌, ◌≤◌, ◌⊎◌, ℕ, ◌+◌, List, [], ◌∷◌, ◌++◌, Bool, true, false, cond, Option, Some, None, refl, ap, sym, ◌∙◌, subst, inl, inr, arith}
+use Rattle.std.proofs.Common.{◌≡◌, ◌≤◌, ◌⊎◌, ℕ, ◌+◌, List, [], ◌∷◌, ◌++◌, Bool, true, false, cond, Option, Some, None, refl, ap, sym, ◌∙◌, subst, inl, inr, arith}
 use Rattle.std.proofs.lemmas.List.Elements.{All-nil, All-contains}
 use Rattle.std.proofs.lemmas.Map.Views.{All-values-insert_entry}
 use Rattle.std.specs.Prelude.{All, Contains, find, option_map, T}
-use Rattle.std.specs.declared.cmp.Ordering.{Ordering}
 use Rattle.std.specs.declared.cmp.Ordering.TheVariants.{Less, Equal, Greater}
 use Rattle.std.specs.Ordering.{is_eq, match_ordering}
 use Rattle.std.specs.BTreeMap.{insert_entry, is_at}
@@ -12,27 +11,22 @@ use Rattle.std.specs.Map.{lookup, values_of}
 use Rattle.std.specs.FinMap.Entries.{is_sorted, is_sorted-put, same_entries}
 use Rattle.spec_tree.specs.declared.Digest.{Digest}
 use Rattle.spec_tree.specs.Order.{digest_cmp, same_digest}
-use Rattle.spec_disk.specs.Disk.{Blocks}
 use Rattle.spec_disk.proofs.ImageLemmas.{Contains-head, Contains-cons, Contains-cons_cases}
-use Rattle.spec_record.specs.declared.geometry.Geometry.{Geometry}
 use Rattle.spec_image.specs.Chain.{BlobRecord}
 use Rattle.spec_image.specs.Metadata.{Metadata}
 use Rattle.spec_image.specs.Stored.{blocks_of}
-use Rattle.spec_image.specs.Volume.{blob_in}
-use Rattle.spec_image.specs.WellFormed.{records_of, blobs_named, is_well_formed}
+use Rattle.spec_image.specs.WellFormed.{records_of, blobs_named}
 use Rattle.spec_image.specs.WellFormedParts.{WellFormed}
 use Rattle.spec_image.proofs.MapLemmas.{digest_total}
 use Rattle.spec_image.proofs.SoundLemmas.{one_root}
-use Rattle.spec_image.proofs.WellFormedLemmas.{well_formed_parts}
 use Rattle.spec_core.specs.Log.{without}
 use Rattle.spec_core.proofs.Holding.{same_self}
 use Rattle.spec_laws.proofs.RecordLemmas.{blob_known}
-use Rattle.spec_meta.specs.Blocks.{metadata_at}
 use Rattle.spec_meta.proofs.Counting.{count, Inserted, sum_inserted}
 use Rattle.spec_meta.proofs.MapLemmas.{same_find, same_put, lookup_insert, named, found_inserted, none_named}
 use Rattle.bv_store.specs.Stored.{blocks_in}
-use Rattle.bv_journaled.specs.Kept.{records_at, IsOf}
-use Rattle.bv_journaled.specs.Standing.{placed_of, placed_at}
+use Rattle.bv_journaled.specs.Kept.{IsOf}
+use Rattle.bv_journaled.specs.Standing.{placed_of}
 
 -- ---- what stands at a root
 

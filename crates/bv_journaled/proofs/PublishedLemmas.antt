@@ -19,7 +19,8 @@ use Rattle.bv_journaled.proofs.MakingLemmas.{bits_enough, publish_makes}
 use Rattle.bv_journaled.proofs.PublishLemmas.{publish_fits}
 
 -- the change of these extents and nodes publishes the blob
-pub publishes_is : (m : Metadata) (p : Publication) (version n : ℕ) (es : List Extent) (ks : List ℕ) → version ≡ p.blob.version → es ≡ runs p.blocks.items → n ≡ nodes_for (length es) → AreFree m n ks
+pub publishes_is : (m : Metadata) (p : Publication) (version n : ℕ) (es : List Extent) (ks : List ℕ) → version ≡ p.blob.version
+    → es ≡ runs p.blocks.items → n ≡ nodes_for (length es) → AreFree m n ks
     → Publishes m p (Publish (record { root = p.root; size = p.blob.size; version = version; extents = es; nodes = ks }))
 publishes_is m p version n es ks same_version same count free = record {
   nodes = ks;
@@ -28,14 +29,17 @@ publishes_is m p version n es ks same_version same count free = record {
 }
 
 -- behind purges it makes what was asked for
-pub published_made : (m : MetaBlocks) (roots : List Digest) (o : Option Publication) (p : Publication) (cs new : List Change) (c : Change) → IsGeometry m.geometry → is_well_formed (metadata_of m) ≡ true → CanTake m p → o ≡ Some p
-    → cs ≡ purge_changes (metadata_of m) roots → Publishes (metadata_of m) p c → new ≡ cs ++ c ∷ [] → Makes (metadata_of m) (record { purged = roots; published = o }) new
+pub published_made : (m : MetaBlocks) (roots : List Digest) (o : Option Publication) (p : Publication) (cs new : List Change)
+    (c : Change) → IsGeometry m.geometry → is_well_formed (metadata_of m) ≡ true → CanTake m p → o ≡ Some p
+    → cs ≡ purge_changes (metadata_of m) roots → Publishes (metadata_of m) p c → new ≡ cs ++ c ∷ []
+    → Makes (metadata_of m) (record { purged = roots; published = o }) new
 published_made m roots o p cs new c lawful formed can some first made all =
     let at : Metadata = metadata_of m in
     let ks : List ℕ = made.nodes in
     let fit : FitsPublish (after_all at (purge_changes at roots)) (record_of p ks) =
     publish_fits at roots p ks formed lawful can.can can.free (bits_enough m.geometry) made.free in
-    let makes : Makes at (record { purged = roots; published = Some p }) (purge_changes at roots ++ Publish (record_of p ks) ∷ []) =
+    let makes : Makes at (record { purged = roots; published = Some p })
+    (purge_changes at roots ++ Publish (record_of p ks) ∷ []) =
     publish_makes at roots p ks formed fit (runs_blocks p.blocks.items 1 m.geometry.blocks can.can.rising) in
     let is : new ≡ purge_changes at roots ++ Publish (record_of p ks) ∷ [] =
     all ∙ (λ i. first i ++ made.is i ∷ []) in

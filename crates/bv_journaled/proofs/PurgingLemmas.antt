@@ -1,7 +1,7 @@
 -- The purges of the blobs of some roots: they fit, and change map and places as the log's purges do.
-use Rattle.std.proofs.Common.{◌≡◌, ◌<◌, ◌≤◌, ℕ, ◌+◌, ◌-◌, List, [], ◌∷◌, ◌++◌, length, true, Option, Some, None, refl, ap, sym, ◌∙◌, subst, arith}
+use Rattle.std.proofs.Common.{◌≡◌, ◌≤◌, ℕ, List, [], ◌∷◌, ◌++◌, true, Option, Some, None, refl, ap, sym, ◌∙◌, arith}
 use Rattle.std.proofs.lemmas.List.{append-nil, append_assoc}
-use Rattle.std.specs.Prelude.{Contains, option_map}
+use Rattle.std.specs.Prelude.{option_map}
 use Rattle.spec_tree.specs.declared.Digest.{Digest}
 use Rattle.spec_tree.specs.declared.blob.Blob.{Blob}
 use Rattle.spec_image.specs.Blobs.{value_of, blob_map}
@@ -17,8 +17,8 @@ use Rattle.spec_core.specs.declared.map_change.MapChange.TheVariants as log
 use Rattle.spec_core.specs.Log.{without, purge_of, purges}
 use Rattle.spec_core.specs.State.{find}
 use Rattle.spec_laws.proofs.RecordLemmas.{known_blob}
-use Rattle.spec_meta.specs.Change.{Change, Publish, Purge, purged, after_change, after_all, log_of, log_of_all}
-use Rattle.spec_meta.specs.Fits.{Fits, AllFit}
+use Rattle.spec_meta.specs.Change.{Change, Purge, purged, after_change, after_all, log_of, log_of_all}
+use Rattle.spec_meta.specs.Fits.{AllFit}
 use Rattle.spec_meta.proofs.ChangeLemmas.{changes_keep, purge_logged}
 use Rattle.spec_meta.proofs.Counting.{Inserted}
 use Rattle.spec_meta.proofs.MapLemmas.{map_taken}

@@ -1,10 +1,10 @@
 -- What a read of the device is to the store.
-use Rattle.std.proofs.Common.{◌≡◌, ℕ, ◌-◌, ◌≤◌, List, [], ◌∷◌, ◌++◌, length, take, drop, Bool, true, false, cond, Option, Some, None, refl, ap, sym, ◌∙◌, subst, inl, inr, arith}
+use Rattle.std.proofs.Common.{◌≡◌, ℕ, ◌-◌, List, [], ◌∷◌, ◌++◌, take, drop, Bool, true, false, cond, Option, Some, None, refl, ap, sym, ◌∙◌, inl, inr}
 use Rattle.std.proofs.lemmas.List.{take-append-drop}
 use Rattle.std.proofs.lemmas.Bool.Decides.{eqb_tells}
 use Rattle.std.specs.Prelude.{option_map, IfSome, IsTrue}
 use Rattle.spec_disk.specs.declared.event.Event.{Event}
-use Rattle.spec_disk.specs.declared.event.Event.TheVariants.{Write, Sync}
+use Rattle.spec_disk.specs.declared.event.Event.TheVariants.{Write}
 use Rattle.spec_disk.specs.Disk.{Blocks, block, now_after, reads_right, reads_right_from, unsynced_part}
 use Rattle.spec_disk.specs.Images.{written_to, pending, IsSettled}
 use Rattle.spec_disk.specs.Laws.{FailedLast}
@@ -15,9 +15,8 @@ use Rattle.spec_meta.proofs.Counting.{true_or_false}
 use Rattle.spec_rest.specs.Rest.{Map}
 use Rattle.bv_device.specs.Told.{Disk, now_of}
 use Rattle.bv_device.specs.Seen.{Seen}
-use Rattle.bv_store.specs.Stored.{Stored}
 use Rattle.bv_journaled.specs.Since.{began_at, since, calls_since}
-use Rattle.bv_journaled.specs.Standing.{Standing, stored_of, RestsOn, Both}
+use Rattle.bv_journaled.specs.Standing.{Standing, stored_of, Both}
 use Rattle.bv_journaled.proofs.RowLemmas.{told_rests, rests_told}
 
 -- a block whose last write failed has a write that is pending

@@ -1,11 +1,9 @@
 -- A recovery writes to no data block: each blob that the image has whole is kept over it.
-use Rattle.std.proofs.Common.{◌≡◌, ◌<◌, ◌≤◌, ℕ, zero, suc, ◌+◌, List, [], ◌∷◌, ◌++◌, length, Bool, true, false, cond, Option, Some, None, refl, ap, sym, ◌∙◌, subst, arith}
+use Rattle.std.proofs.Common.{◌≡◌, ◌<◌, ◌≤◌, ℕ, zero, suc, ◌+◌, List, [], ◌∷◌, ◌++◌, Bool, true, false, cond, Option, Some, None, refl, ◌∙◌, arith}
 use Rattle.std.specs.Prelude.{Contains, All}
 use Rattle.std.specs.List.{AllByRecursion}
 use Rattle.spec_tree.specs.Tree.{root_of}
-use Rattle.spec_disk.specs.declared.event.Event.{Event}
 use Rattle.spec_disk.specs.Disk.{Blocks}
-use Rattle.spec_disk.specs.Images.{written_to}
 use Rattle.spec_record.specs.declared.geometry.Geometry.{Geometry}
 use Rattle.spec_record.specs.declared.info.Info.{Info}
 use Rattle.spec_record.specs.Geometry.{IsGeometry, meta_blocks, ring_slots, block_at, slot_at}
@@ -16,9 +14,8 @@ use Rattle.spec_image.specs.Empty.{zero_block}
 use Rattle.spec_image.specs.Stored.{bytes_in}
 use Rattle.spec_image.specs.WellFormed.{is_well_formed}
 use Rattle.spec_meta.specs.Blocks.{metadata_at}
-use Rattle.spec_rest.specs.Rest.{Map}
-use Rattle.bv_device.specs.Told.{Disk, disk_with}
-use Rattle.bv_device.specs.Plan.{a_write, a_sync}
+use Rattle.bv_device.specs.Told.{disk_with}
+use Rattle.bv_device.specs.Plan.{a_sync}
 use Rattle.bv_journal.specs.Plans.{one_in_place, in_place, scrub, recovery, is_clean, recover_plan, info_plan}
 use Rattle.bv_journaled.specs.Kept.{records_at, map_at, KeepsMap}
 use Rattle.bv_journaled.proofs.CallLemmas.{map_spared}

@@ -1,26 +1,23 @@
 -- What a run of the device is to what the store shows.
-use Rattle.std.proofs.Common.{◌≡◌, ◌<◌, ◌≤◌, ℕ, ◌+◌, ◌-◌, List, [], ◌∷◌, ◌++◌, length, take, drop, true, false, Option, Some, None, Result, Ok, Err, refl, ap, sym, ◌∙◌, subst, inl, inr, arith, length-append, length-drop}
+use Rattle.std.proofs.Common.{◌≡◌, ◌≤◌, ℕ, ◌+◌, ◌-◌, List, [], ◌∷◌, ◌++◌, length, drop, Option, Some, None, Result, Ok, Err, refl, ap, sym, ◌∙◌, subst, inl, inr, arith, length-append}
 use Rattle.std.proofs.lemmas.List.{take-append-le, drop-append-le}
 use Rattle.std.specs.Prelude.{option_map, IfSome, OnOk, OnErr}
 use Rattle.spec_disk.specs.declared.event.Event.{Event}
 use Rattle.spec_disk.specs.Disk.{Blocks, block, now_after}
 use Rattle.spec_disk.specs.Images.{written_to}
-use Rattle.spec_record.specs.declared.geometry.Geometry.{Geometry}
-use Rattle.spec_record.specs.Geometry.{block_at}
 use Rattle.spec_image.specs.Leaves.{LeavesWithin}
-use Rattle.spec_rest.specs.Rest.{Map, HoldsEither}
-use Rattle.bv_device.specs.Told.{Disk, disk_with, with_event, now_of}
-use Rattle.bv_device.specs.Plan.{IsPlan, failed_event, with_events, CutShort, Follows, CountsCalls}
-use Rattle.bv_device.specs.Seen.{Seen, Performs}
-use Rattle.bv_device.proofs.PlanLemmas.{disk_with-nil, disk_with-append, with_events-some, with_events-none, Follows-none}
+use Rattle.spec_rest.specs.Rest.{Map}
+use Rattle.bv_device.specs.Told.{Disk, disk_with, now_of}
+use Rattle.bv_device.specs.Plan.{IsPlan, failed_event, CutShort, Follows}
+use Rattle.bv_device.specs.Seen.{Performs}
+use Rattle.bv_device.proofs.PlanLemmas.{with_events-some, Follows-none}
 use Rattle.bv_journal.specs.Stops.{Stops}
-use Rattle.bv_store.specs.Stored.{Stored, Counts, Grows, SameData, LeavesEither}
+use Rattle.bv_store.specs.Stored.{Counts, Grows}
 use Rattle.bv_journaled.specs.declared.prepared.Prepared.{Prepared}
 use Rattle.bv_journaled.specs.Since.{began_at, since, calls_since}
 use Rattle.bv_journaled.specs.Standing.{Standing, stored_of, IsStanding, RestsOn, Both}
-use Rattle.bv_journaled.proofs.QuietLemmas.{SparesData}
-use Rattle.bv_journaled.proofs.RunLemmas.{Run, run_came, one_run, ok_told, now_same}
-use Rattle.bv_journaled.proofs.StopLemmas.{Left, run_leaves}
+use Rattle.bv_journaled.proofs.RunLemmas.{run_came, one_run, now_same}
+use Rattle.bv_journaled.proofs.StopLemmas.{run_leaves}
 
 -- ---- the disk since the mount began
 

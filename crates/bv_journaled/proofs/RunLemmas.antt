@@ -1,6 +1,6 @@
 -- A run that follows a plan, by the events that came.
-use Rattle.std.proofs.Common.{◌≡◌, ◌<◌, ◌≤◌, ℕ, ◌+◌, ◌-◌, List, [], ◌∷◌, ◌++◌, length, take, drop, true, false, Option, Some, None, Result, Ok, Err, refl, ap, sym, ◌∙◌, subst, inl, inr, arith}
-use Rattle.std.proofs.lemmas.List.{append-nil, append_cancel_left}
+use Rattle.std.proofs.Common.{◌≡◌, ℕ, List, [], ◌∷◌, ◌++◌, Option, Some, None, Result, Ok, Err, refl, ap, sym, ◌∙◌, subst, inl, inr}
+use Rattle.std.proofs.lemmas.List.{append_cancel_left}
 use Rattle.std.specs.Prelude.{Contains, OnOk}
 use Rattle.spec_disk.specs.declared.event.Event.{Event}
 use Rattle.spec_disk.specs.declared.event.Event.TheVariants.{Write, Sync}
@@ -8,7 +8,7 @@ use Rattle.spec_disk.specs.Disk.{Blocks, block, now_after}
 use Rattle.spec_disk.specs.Images.{written_to}
 use Rattle.spec_disk.proofs.EventLemmas.{written_to-append, now_after-append}
 use Rattle.spec_disk.proofs.ImageLemmas.{now_after-written, Contains-one}
-use Rattle.bv_device.specs.Told.{Disk, disk_with, with_event, now_of}
+use Rattle.bv_device.specs.Told.{Disk, disk_with, now_of}
 use Rattle.bv_device.specs.Plan.{failed_event, with_events, CutShort, Follows}
 use Rattle.bv_device.proofs.PlanLemmas.{disk_with-nil, disk_with-append, with_events-some, with_events-none}
 use Rattle.bv_journaled.proofs.QuietLemmas.{parts_none}

@@ -1,5 +1,5 @@
 -- A disk since a mount began: what it was then, and the events since (this project's profile).
-use Rattle.std.specs.Prelude.{ℕ, ◌-◌, List, length, take, drop, Option, Some, None, option_map}
+use Rattle.std.specs.Prelude.{ℕ, length, take, drop, Option, Some, None}
 use Rattle.spec_disk.specs.Disk.{now_after}
 use Rattle.bv_device.specs.Told.{Disk}
 

@@ -1,5 +1,5 @@
 -- The laws of the store.
-use Rattle.std.proofs.Common.{◌≡◌, ℕ, ◌-◌, length, Option, Some, None, refl}
+use Rattle.std.proofs.Common.{◌≡◌, ◌-◌, length, Option, Some, None, refl}
 use Rattle.std.specs.Prelude.{option_map, IfSome}
 use Rattle.spec_image.specs.Leaves.{Leaves}
 use Rattle.spec_rest.specs.Rest.{Map, HoldsEither}

@@ -7,4 +7,6 @@ pub loop-target-preserved : goal.loop-target-preserved
 loop-target-preserved c = below_more _ _ c.loop-target.invariant c.tell_block.ensures
 
 pub returns : goal.returns
-returns c = All-from_get_or (λ (t : ℕ × List ℕ). IsBlock t.1) c.args.targets.now (0, []) (λ k lt. c.loop-target.invariant k (omega (arith, lt)))
+returns c =
+    All-from_get_or (λ (t : ℕ × List ℕ). IsBlock t.1) c.args.targets.now (0, [])
+    (λ k lt. c.loop-target.invariant k (omega (arith, lt)))

@@ -1,4 +1,4 @@
-use Rattle.std.proofs.Common.{◌≡◌, ap, sym, ◌∙◌, subst, arith, ℕ, List, length}
+use Rattle.std.proofs.Common.{◌≡◌, ap, sym, ◌∙◌, subst, arith, length}
 use Rattle.std.specs.List.Sorted.{IsStrictlyIncreasing}
 use Rattle.spec_record.specs.declared.geometry.Geometry.{Geometry}
 use Rattle.spec_record.specs.declared.extent.Extent.{Extent}
@@ -21,12 +21,14 @@ runs_of-requires c =
 pub free_nodes-requires-clause-room : goal.free_nodes-requires-clause-room
 free_nodes-requires-clause-room c =
     let count : c.nodes_for-count.result ≡ nodes_of c.args.published.now =
-    c.nodes_for-count.ensures ∙ ap nodes_for (c.len.ensures ∙ c.in_ok-extents.extents.ok.0 ∙ ap (length {A = Extent}) (c.in_ok-extents.ensures.items ∙ ap runs c.deref.ensures.value)) in
+    c.nodes_for-count.ensures ∙ ap nodes_for (c.len.ensures ∙ c.in_ok-extents.extents.ok.0
+    ∙ ap (length {A = Extent}) (c.in_ok-extents.ensures.items ∙ ap runs c.deref.ensures.value)) in
     omega (arith, count, c.requires.fits.room)
 
 pub returns : goal.returns
 returns c =
-    publishes_is (metadata_of c.args.meta.now) c.args.published.now c.geometry-version.result.version c.nodes_for-count.result c.in_ok-extents.extents.items c.in_ok-nodes.nodes.items
+    publishes_is (metadata_of c.args.meta.now) c.args.published.now c.geometry-version.result.version
+    c.nodes_for-count.result c.in_ok-extents.extents.items c.in_ok-nodes.nodes.items
     (ap (λ (g : Geometry). g.version) c.geometry-version.ensures.value ∙ sym c.requires.fits.can.version)
     (c.in_ok-extents.ensures.items ∙ ap runs c.deref.ensures.value)
     (c.nodes_for-count.ensures ∙ ap nodes_for (c.len.ensures ∙ c.in_ok-extents.extents.ok.0))

@@ -1,8 +1,7 @@
 use Rattle.std.proofs.Common.{◌≡◌, ap, sym, subst}
-use Rattle.spec_rest.specs.Rest.{Map}
 use Rattle.bv_journal.specs.Plans.{checkpoint_plan}
 use Rattle.bv_ring.specs.Cursor.{info_at_cursor}
-use Rattle.bv_journaled.specs.Standing.{Standing, stored_of, Both}
+use Rattle.bv_journaled.specs.Standing.{Standing, Both}
 use Rattle.bv_journaled.proofs.CallRows.{place_grows, place_both, place_settled}
 use Rattle.bv_journaled.proofs.RowLemmas.{run_counts, on_ok, on_ok_at, either}
 use Rattle.bv_journaled.proofs.keeping.JournaledStoreStore.checkpoint.Goals as goal

@@ -1,6 +1,5 @@
-use Rattle.std.proofs.Common.{◌≡◌, ap, sym, subst}
+use Rattle.std.proofs.Common.{ap, sym, subst}
 use Rattle.spec_record.specs.Geometry.{block_at}
-use Rattle.spec_rest.specs.Rest.{Map}
 use Rattle.bv_device.specs.Plan.{a_write}
 use Rattle.bv_store.specs.Stored.{Grows}
 use Rattle.bv_journaled.specs.Standing.{Standing, stored_of, IsHeld, Both}

@@ -1,8 +1,7 @@
-use Rattle.std.proofs.Common.{◌≡◌, Ok, sym, subst}
+use Rattle.std.proofs.Common.{sym, subst}
 use Rattle.spec_record.specs.Geometry.{block_at}
-use Rattle.spec_rest.specs.Rest.{Map}
-use Rattle.bv_journaled.specs.Standing.{Standing, stored_of, Both}
-use Rattle.bv_journaled.proofs.ReadLemmas.{ReadsBlock, read_since, read_both}
+use Rattle.bv_journaled.specs.Standing.{Standing, Both}
+use Rattle.bv_journaled.proofs.ReadLemmas.{read_since, read_both}
 use Rattle.bv_journaled.proofs.RowLemmas.{on_ok_from}
 use Rattle.bv_journaled.proofs.keeping.JournaledStoreStore.read.Goals as goal
 

@@ -1,11 +1,6 @@
-use Rattle.std.proofs.Common.{◌≡◌, [], Result, Ok, Err, ap, sym, subst}
-use Rattle.std.specs.Prelude.{OnOk, OnErr}
-use Rattle.spec_record.specs.declared.geometry.Geometry.{Geometry}
-use Rattle.spec_rest.specs.Rest.{Map}
+use Rattle.std.proofs.Common.{◌≡◌, ap, sym, subst}
 use Rattle.bv_device.specs.Plan.{a_sync}
-use Rattle.bv_device.specs.Seen.{Seen}
-use Rattle.bv_store.specs.Stored.{Grows}
-use Rattle.bv_journaled.specs.Standing.{Standing, stored_of, Both}
+use Rattle.bv_journaled.specs.Standing.{Standing, Both}
 use Rattle.bv_journaled.proofs.CallRows.{sync_grows, sync_both}
 use Rattle.bv_journaled.proofs.RowLemmas.{run_counts, on_ok, on_ok_at, either}
 use Rattle.bv_journaled.proofs.keeping.JournaledStoreStore.sync.Goals as goal

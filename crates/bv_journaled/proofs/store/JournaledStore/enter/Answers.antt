@@ -1,4 +1,4 @@
-use Rattle.std.proofs.Common.{◌≡◌, ap, ◌∙◌}
+use Rattle.std.proofs.Common.{ap, ◌∙◌}
 use Rattle.spec_image.specs.WellFormed.{is_well_formed}
 use Rattle.spec_meta.specs.Blocks.{metadata_at, patched}
 use Rattle.bv_journaled.specs.Standing.{Standing}

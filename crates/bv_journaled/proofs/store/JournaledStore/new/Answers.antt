@@ -1,7 +1,6 @@
-use Rattle.std.proofs.Common.{◌≡◌, ◌≤◌, List, [], None, sym, subst}
+use Rattle.std.proofs.Common.{List, [], None, sym, subst}
 use Rattle.std.specs.Prelude.{IfSome}
 use Rattle.spec_record.specs.declared.info.Info.{Info}
-use Rattle.bv_device.specs.Told.{Disk}
 use Rattle.bv_journal.specs.Rests.{AtRest}
 use Rattle.bv_ring.specs.Cursor.{StandsBehind}
 use Rattle.bv_txn.specs.declared.change.Change.{Change}

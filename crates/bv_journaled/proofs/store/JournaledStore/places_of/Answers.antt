@@ -1,8 +1,6 @@
 use Rattle.std.proofs.Common.{◌≡◌, ◌≤◌, ◌^◌, Some, ap, sym, ◌∙◌, arith}
 use Rattle.spec_record.proofs.SuperLemmas.{most_blocks-le}
-use Rattle.spec_image.specs.Chain.{BlobRecord}
 use Rattle.spec_image.specs.Metadata.{Metadata}
-use Rattle.spec_image.specs.Stored.{blocks_of}
 use Rattle.spec_image.specs.Volume.{blob_in}
 use Rattle.spec_core.specs.State.{find}
 use Rattle.spec_meta.specs.Blocks.{metadata_at}
