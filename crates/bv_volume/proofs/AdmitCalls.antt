@@ -31,9 +31,10 @@ use Rattle.spec_core.proofs.Holding.{digest_total, same_self}
 use Rattle.spec_core.specs.declared.setting.Setting.{Setting}
 use Rattle.spec_rest.specs.Rest.{Map}
 use Rattle.bv_claims.specs.declared.claimed.Claimed.{Claimed}
+use Rattle.bv_claims.specs.declared.claims.Claims.{Claims}
 use Rattle.bv_model.specs.Noted.{Noted}
 use Rattle.bv_volume.specs.Adding.{Admitting, Ending, IsAdmitted}
-use Rattle.bv_volume.specs.Admitted.{HandsBoth, IsAnswer, TellsNodes}
+use Rattle.bv_volume.specs.Admitted.{Gathered, HandsBoth, IsAnswer, IsGiven, IsNeedOf, TellsNodes, free_in}
 use Rattle.bv_volume.specs.Kept.{Kept, seen_of}
 use Rattle.bv_volume.specs.Seen.{Seen}
 use Rattle.bv_volume.specs.declared.admitting.AdmitFault.{AdmitFault}
@@ -154,9 +155,25 @@ module _ (n n' : Noted) (next : ℕ) (t new : Tables) (o mid o' : Owned) (s : St
       subst (λ (x : Result Admitted AdmitFault). IfOk x (λ a. (a ≡ record { root = r; size = size; put = 0 }) × IsAdmitted (seen_of n' next new o' s) a)) (sym is) (refl, is_now ok adds does.0)
   now_admitted (Err e) result is does ok = subst (λ (x : Result Admitted AdmitFault). IfOk x (λ a. (a ≡ record { root = r; size = size; put = 0 }) × IsAdmitted (seen_of n' next new o' s) a)) (sym is) tt
 
-pub answer_nodes : (old : Seen) (r : Digest) (n free : ℕ) (res : Result (Unit {0}) NoNodes) (result : Result Admitted AdmitFault) → IsAnswer res result r n → IfErr res (λ e. (free < e.need) × (e.free ≡ free)) → free ≡ old.store.geometry.nodes - old.store.used_nodes - sum (values_of old.space.nodes) → TellsNodes old result
-answer_nodes old r n free (Ok v) result is told frees = subst (λ (x : Result Admitted AdmitFault). TellsNodes old x) (sym is) tt
-answer_nodes old r n free (Err e) result is told frees = subst (λ (x : Result Admitted AdmitFault). TellsNodes old x) (sym is) (omega (arith, told.0, told.1), told.1 ∙ frees)
+-- the add's blocks are those that were gathered
+pub given_of : (mid new : Owned) (r : Digest) (k : ℕ) (blocks : Vec ℕ) (claims : Claims) (claimed : Claimed) (free : ℕ) → new ≡ record mid { adds = insert_entry digest_cmp mid.adds r blocks; nodes = insert_entry digest_cmp mid.nodes r k } → Gathered claims claimed blocks.items → nodes_at blocks.items ≤ free → IsGiven new.adds r claims claimed free
+given_of mid new r k blocks claims claimed free is gathered enough =
+    let here : cond (same_digest r r) (Some blocks) (find mid.adds r) ≡ Some blocks = rw (same_self r) refl in
+    record {
+      blocks = blocks;
+      has = ap (λ (x : Owned). find x.adds r) is ∙ lookup-insert_entry digest_total mid.adds r blocks r ∙ here;
+      gathered = gathered;
+      enough = enough;
+    }
+
+-- and so of the volumes before and after
+pub answer_nodes : (old new : Seen) (claimed : Claimed) (claims : Claims) (r : Digest) (n free : ℕ) (res : Result (Unit {0}) NoNodes) (result : Result Admitted AdmitFault) → IsAnswer res result r n → OnOk res (IsGiven new.space.adds r claims claimed free) → IfErr res (λ e. (free < e.need) × (e.free ≡ free) × IsNeedOf claims claimed e.need) → claims ≡ old.space.claims → free ≡ free_in old → TellsNodes old new claimed result
+answer_nodes old new claimed claims r n free (Ok v) result is given told table frees =
+    subst (λ (x : Result Admitted AdmitFault). TellsNodes old new claimed x) (sym is)
+    (subst (λ (k : ℕ). IsGiven new.space.adds r old.space.claims claimed k) frees (subst (λ (x : Claims). IsGiven new.space.adds r x claimed free) table given))
+answer_nodes old new claimed claims r n free (Err e) result is given told table frees =
+    subst (λ (x : Result Admitted AdmitFault). TellsNodes old new claimed x) (sym is)
+    (omega (arith, told.0, told.1), told.1 ∙ frees, subst (λ (x : Claims). IsNeedOf x claimed e.need) table told.2)
 
 pub answer_back : (begun : Begun) (claimed : Claimed) (r : Digest) (n : ℕ) (res : Result (Unit {0}) NoNodes) (result : Result Admitted AdmitFault) → IsAnswer res result r n → HandsBoth result begun claimed
 answer_back begun claimed r n (Ok v) result is = subst (λ (x : Result Admitted AdmitFault). HandsBoth x begun claimed) (sym is) tt

@@ -13,7 +13,7 @@ ghost use Rattle.spec_core.specs.Room.{least_free};
 ghost use Rattle.spec_core.specs.State.{find};
 ghost use Rattle.spec_tree.specs.Tree.{need_of};
 ghost use Rattle.bv_volume.specs.Adding.{Admitting, ClaimsFor, Ending, IsAdmitted, IsBegun};
-ghost use Rattle.bv_volume.specs.Admitted.{HandsBoth, IsAnswer, TellsNodes, admit_reply};
+ghost use Rattle.bv_volume.specs.Admitted.{HandsBoth, IsAnswer, IsGiven, IsNeedOf, TellsNodes, admit_reply};
 ghost use Rattle.bv_volume.specs.Events.{Does};
 ghost use Rattle.bv_volume.specs.Seen.{IsSafe};
 
@@ -80,7 +80,9 @@ fn give_space(
         (Some (A.admit_reply result)) }
     ensures ok { OnOk result (Admitting space.old space.new root free
         (length (claimed_gained claimed) + claimed_left claimed)) }
-    ensures told { IfErr result (λ e. (free < e.need) × (e.free ≡ free)) }
+    ensures given { OnOk result (IsGiven space.new.adds root space.old.claims claimed free) }
+    ensures told { IfErr result (λ e. (free < e.need) × (e.free ≡ free)
+        × IsNeedOf space.old.claims claimed e.need) }
     ensures err { OnErr result (Ending space.old space.new root
         (length (claimed_gained claimed) + claimed_left claimed)) }
 {
@@ -157,7 +159,7 @@ impl<'t, S: Store> Volume<'t, S> {
           size = begun.size;
           put = 0;
         }) × IsAdmitted self.new a) }
-        ensures nodes { TellsNodes self.old result }
+        ensures nodes { TellsNodes self.old self.new claimed result }
         ensures back { HandsBoth result begun claimed }
         ensures crash { IsSafe self.new }
     {

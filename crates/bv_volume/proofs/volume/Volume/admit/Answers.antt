@@ -1,11 +1,8 @@
-use Rattle.std.proofs.Common.{◌≡◌, ◌≤◌, ◌+◌, ◌-◌, ℕ, sum, length, is_some, Some, None, refl, ap, sym, ◌∙◌, subst, arith, rules}
-use Rattle.std.specs.BTreeMap.{insert_entry}
-use Rattle.std.specs.Map.{values_of}
-use Rattle.spec_tree.specs.Order.{digest_cmp}
+use Rattle.std.proofs.Common.{◌≡◌, ◌+◌, ℕ, length, Some, None, refl, ap, sym, ◌∙◌, rules}
 use Rattle.spec_tree.specs.Tree.{need_of}
 use Rattle.spec_core.proofs.EntryLemmas.{lookup-insert_entry}
 use Rattle.spec_core.proofs.Holding.{digest_total, same_self}
-use Rattle.spec_core.specs.State.{State, find}
+use Rattle.spec_core.specs.State.{find}
 use Rattle.spec_core.specs.declared.act.Act.TheVariants.{Admit}
 use Rattle.bv_claims.specs.Tokens.{claimed_gained, claimed_left}
 use Rattle.bv_space.specs.Owned.{Owned}
@@ -15,7 +12,7 @@ use Rattle.bv_volume.specs.Kept.{seen_of}
 use Rattle.bv_volume.specs.Spaced.{Spaced}
 use Rattle.bv_volume.proofs.Adds.{adds_are_sole, same_version, tabled_add}
 use Rattle.bv_volume.proofs.Admits.{enough_free}
-use Rattle.bv_volume.proofs.AdmitCalls.{admit_silent, now_admitted, spaced_admit}
+use Rattle.bv_volume.proofs.AdmitCalls.{admit_silent, answer_nodes, now_admitted, spaced_admit}
 use Rattle.bv_volume.proofs.Freed.{map_is_sole}
 use Rattle.bv_volume.proofs.Silent.{CallDone, has_room, quiet_call}
 use Rattle.bv_volume.proofs.volume.Volume.admit.Goals as goal
@@ -82,3 +79,12 @@ returns-clause-admitted g c =
 
 pub returns-clause-crash : goal.returns-clause-crash
 returns-clause-crash g c = (done g c).safe
+
+pub returns-clause-nodes : goal.returns-clause-nodes
+returns-clause-nodes g c =
+    let i = c.self.inside in
+    let s = g.S.Store.seen i.store in
+    let e = c.give_space-answer in
+    rw (← c.self.view_is)
+    (answer_nodes (seen_of i.history i.first i.ledger i.space s) (seen_of c.note.new.history i.first e.new.ledger e.new.space s) c.args.claimed c.note_nodes.new.self.claims c.args.begun.root c.args.begun.size c.free_nodes-free.result e.result c.admit_answer.result
+    c.admit_answer.ensures.same e.ensures.given e.ensures.told (ap (λ (x : Owned). x.claims) c.in-Ok-note_nodes.ensures.ok) c.free_nodes-free.ensures.value)
