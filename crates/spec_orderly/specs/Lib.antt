@@ -1,0 +1,2 @@
+-- Sessions that take their adds on in order.
+pub mod Orderly

@@ -1,0 +1,13 @@
+//! Laws of the definitions: what each function here ensures holds of all values.
+
+ghost use Rattle.spec_orderly.specs.Orderly.{AddsAreApart, OwnAddsAreUnderWay};
+
+/// The add that a session has under way by its own events is under way in the core, with its size.
+pub fn an_own_add_is_under_way()
+    ensures { OwnAddsAreUnderWay }
+{}
+
+/// No two sessions have an add of one root under way.
+pub fn adds_of_two_sessions_have_two_roots()
+    ensures { AddsAreApart }
+{}
