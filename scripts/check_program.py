@@ -20,6 +20,7 @@ wrong = []
 
 def run(words, data=b"", **streams):
     streams.setdefault("stdout", subprocess.PIPE)
+    streams.setdefault("stderr", subprocess.DEVNULL)
     return subprocess.run([program, *words], input=data, check=False, **streams)
 
 
@@ -48,11 +49,10 @@ for word in ["--help", "--version"]:
     expect(f"status of {word}", done.returncode, 0)
     expect(f"text of {word}", len(done.stdout) > 10, True)
 
-# The kit that the version and README.md name is the one that is here.
+# The program names no kit, and README.md the one that is here.
+expect("--version", run(["--version"]).stdout, b"blobfs 0.1.0\n")
 if shutil.which("rt"):
     kit = subprocess.run(["rt", "version"], stdout=subprocess.PIPE, check=True, text=True).stdout
-    version = run(["--version"]).stdout.decode().splitlines()
-    expect("the kit of --version", version[1:], [kit.strip()])
     named = re.search(r"^Proved with: `(.*)`\.$", (top / "README.md").read_text(), re.MULTILINE)
     expect("the kit of README.md", named and named[1], kit.strip())
 
@@ -65,7 +65,8 @@ with open("/dev/full", "wb") as full:
 def run_in_shell(line, *arguments):
     """Runs a line of bash, in which $0 is the program."""
     return subprocess.run(
-        ["bash", "-c", line, program, *arguments], stdout=subprocess.PIPE, check=False
+        ["bash", "-c", line, program, *arguments], stdout=subprocess.PIPE,
+        stderr=subprocess.DEVNULL, check=False,
     )
 
 
@@ -236,7 +237,8 @@ with tempfile.TemporaryDirectory() as name:
     os.close(reader)
     for words, status in [(["root"], 4), (["frob"], 1)]:
         done = subprocess.run(
-            [script, *words], stdin=subprocess.DEVNULL, stdout=writer, check=False
+            [script, *words], stdin=subprocess.DEVNULL, stdout=writer,
+            stderr=subprocess.DEVNULL, check=False,
         )
         expect(f"a pipe that nobody reads, {words}", done.returncode, status)
     os.close(writer)

@@ -3,6 +3,8 @@ use Rattle.std.proofs.Common.{◌≡◌, ◌≤◌, ℕ, ◌-◌, List, [], ◌�
 use Rattle.std.proofs.lemmas.List.{take_all}
 use Rattle.bv_serve.specs.declared.command.Command.{Command}
 use Rattle.bv_serve.specs.Words.{IsForm}
+use Rattle.bv_main.specs.Access.{access_of}
+use Rattle.bv_main.specs.declared.access.Access.{Access}
 use Rattle.bv_main.specs.declared.device_word.DeviceWord.{DeviceWord}
 use Rattle.bv_main.specs.Devices.{Names}
 use Rattle.bv_main.specs.Program.{IsRun}
@@ -16,12 +18,12 @@ map-first text_of (x ∷ rest) word some is =
     ap (λ (w : _). text_of w ∷ map text_of rest) (sym is) ∙ ap (λ (ws : List _). text_of word ∷ map text_of ws) (sym others)
 
 -- words of which the first names a device, and the others write a command
-pub is_run : {A : Type 0} (text_of : A → List ℕ) (words : List A) (word : A) (text : List ℕ) (device : DeviceWord) (c : Command) → 1 ≤ length words → word ≡ get_or words 0 word
+pub is_run : {A : Type 0} (text_of : A → List ℕ) (words : List A) (word : A) (text : List ℕ) (device : DeviceWord) (access : Access) (c : Command) → 1 ≤ length words → word ≡ get_or words 0 word
     → text ≡ text_of word → Names text device → IsForm (map text_of (take (length words - 1) (drop 1 words))) c
-    → IsRun (map text_of words) device (map text_of (take (length words - 1) (drop 1 words)))
-is_run text_of words word text device c some is same named form = record {
+    → access ≡ access_of c → IsRun (map text_of words) device access (map text_of (take (length words - 1) (drop 1 words)))
+is_run text_of words word text device access c some is same named form may = record {
   word = text;
   is = map-first text_of words word some is ∙ ap (λ (t : List ℕ). t ∷ map text_of (take (length words - 1) (drop 1 words))) (sym same);
   named = named;
-  form = (c, form);
+  form = (c, form, may);
 }

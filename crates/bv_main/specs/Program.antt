@@ -18,26 +18,28 @@ use Rattle.bv_serve.specs.Lines.{refusal_line, refusal_status}
 use Rattle.bv_serve.specs.Runs.{Change, LeavesAlone, Prints, PrintsAt}
 use Rattle.bv_serve.specs.Serves.{Serves, LeavesDevice}
 use Rattle.bv_serve.specs.Words.{IsForm}
+use Rattle.bv_main.specs.Access.{access_of}
+use Rattle.bv_main.specs.declared.access.Access.{Access}
 use Rattle.bv_main.specs.declared.device_word.DeviceWord.{DeviceWord}
 use Rattle.bv_main.specs.declared.device_word.DeviceWord.TheVariants.{Mem, New, File}
 use Rattle.bv_main.specs.declared.request.Request.{Request}
 use Rattle.bv_main.specs.declared.request.Request.TheVariants.{Help, Version, Root, On}
 use Rattle.bv_main.specs.Devices.{Names}
 
--- a word that names a device, and then a written form of a command
-pub record IsRun (words : List (List ℕ)) (device : DeviceWord) (command : List (List ℕ))
-    : Type 0 where
+-- a word that names a device, and then a written form of a command that may do this to its file
+pub record IsRun (words : List (List ℕ)) (device : DeviceWord) (access : Access)
+    (command : List (List ℕ)) : Type 0 where
   pub word : List ℕ
   pub is : words ≡ word ∷ command
   pub named : Names word device
-  pub form : (c : Command) × IsForm command c
+  pub form : (c : Command) × IsForm command c × (access ≡ access_of c)
 
 -- the words ask for this
 abbrev pub Asks : List (List ℕ) → Request → Type 0
 Asks words Help = words ≡ codes "--help" ∷ []
 Asks words Version = words ≡ codes "--version" ∷ []
 Asks words Root = words ≡ codes "root" ∷ []
-Asks words (On device command) = IsRun words device (map string_bytes command.now)
+Asks words (On device access command) = IsRun words device access (map string_bytes command.now)
 
 -- the words are none of the forms
 abbrev pub AsksNothing : List (List ℕ) → Type 0
@@ -65,12 +67,13 @@ RunsOn old command ended input out = (new : Seen) × Serves command ended old ne
 -- Below, F is what opens files and D an open file. `seen` is what a contract sees of a file,
 -- `count` the failed openings, and the rest says what came of opening, making and closing one.
 module _ {F D : Type 0} (seen : D → Seen) (count : F → ℕ)
-    (opens : F → List ℕ → Result D Failed → F → Type 0)
+    (opens : F → Access → List ℕ → Result D Failed → F → Type 0)
     (makes : F → ℕ → List ℕ → Result D Failed → F → Type 0)
     (closes : F → D → F → Type 0) where
-  -- this came of opening the path
-  abbrev pub IsOpened : F → List ℕ → Result D Failed → F → Type 0
-  IsOpened old path made new = opens old path made new × CountsFaults (count old) (count new) made
+  -- this came of opening the path for such access
+  abbrev pub IsOpened : F → Access → List ℕ → Result D Failed → F → Type 0
+  IsOpened old access path made new =
+      opens old access path made new × CountsFaults (count old) (count new) made
 
   -- this came of making a file of so many blocks at the path
   abbrev pub IsNewFile : F → ℕ → List ℕ → Result D Failed → F → Type 0
@@ -97,15 +100,16 @@ module _ {F D : Type 0} (seen : D → Seen) (count : F → ℕ)
       (new ≡ old) × IsRefused DeviceFault ended input out
 
   -- what is done with a command on the device that a word names
-  abbrev pub RunsOnWord : DeviceWord → F → F → List (List ℕ) → Status → Change → Change → Type 0
-  RunsOnWord (Mem blocks) old new command ended input out =
+  abbrev pub RunsOnWord : DeviceWord → Access → F → F → List (List ℕ) → Status → Change → Change
+      → Type 0
+  RunsOnWord (Mem blocks) access old new command ended input out =
       (new ≡ old)
       × (RunsOn (memory blocks) command ended input out ⊎ IsRefused NoMemory ended input out)
-  RunsOnWord (New blocks path) old new command ended input out =
+  RunsOnWord (New blocks path) access old new command ended input out =
       (made : Result D Failed) × (opened : F) × IsNewFile old blocks path.now made opened
       × RunsOnFile made opened new command ended input out
-  RunsOnWord (File path) old new command ended input out =
-      (made : Result D Failed) × (opened : F) × IsOpened old path.now made opened
+  RunsOnWord (File path) access old new command ended input out =
+      (made : Result D Failed) × (opened : F) × IsOpened old access path.now made opened
       × RunsOnFile made opened new command ended input out
 
   -- what is done for a request
@@ -116,5 +120,5 @@ module _ {F D : Type 0} (seen : D → Seen) (count : F → ℕ)
       (new ≡ old) × PrintsAt ended out version × LeavesAlone input
   Does help version Root old new ended input out =
       (new ≡ old) × RunsOn (memory 0) (codes "root" ∷ []) ended input out
-  Does help version (On device command) old new ended input out =
-      RunsOnWord device old new (map string_bytes command.now) ended input out
+  Does help version (On device access command) old new ended input out =
+      RunsOnWord device access old new (map string_bytes command.now) ended input out

@@ -2,7 +2,9 @@
 ghost use Rattle.std.specs.Prelude.{◌≡◌, ◌<◌, ◌^◌, ℕ, List, Result, IfOk};
 ghost use Rattle.spec_faults.specs.Faults.{CountsFaults};
 ghost use Rattle.bv_device.specs.declared.failed.Failed.{Failed};
+ghost use Rattle.bv_main.specs.declared.access.Access.{Access};
 
+use crate::access::Access;
 use bv_device::{Device, Failed};
 
 /// Opens, makes and closes files of blocks.
@@ -10,8 +12,8 @@ pub trait DiskFiles {
     /// An open file. It can't be let go: it has to be closed.
     type Disk: Device;
 
-    /// What came of opening this path, and what is left of `self`.
-    ghost open_gives: { Self → List ℕ → Result Self.Disk Failed → Self → Type 0 };
+    /// What came of opening this path for such access, and what is left of `self`.
+    ghost open_gives: { Self → Access → List ℕ → Result Self.Disk Failed → Self → Type 0 };
 
     /// What came of making a file of so many blocks at this path.
     ghost make_gives: { Self → ℕ → List ℕ → Result Self.Disk Failed → Self → Type 0 };
@@ -22,9 +24,9 @@ pub trait DiskFiles {
     /// How many calls have failed. It never falls.
     ghost fault_count: { Self → ℕ };
 
-    /// Opens a file that is there, to read and to write it.
-    fn open(&mut self, path: &str) -> Result<Self::Disk, Failed>
-        ensures gives { open_gives self.old path.now result self.new }
+    /// Opens a file that is there, to read it or to write it too.
+    fn open(&mut self, access: Access, path: &str) -> Result<Self::Disk, Failed>
+        ensures gives { open_gives self.old access path.now result self.new }
         ensures faults { CountsFaults (fault_count self.old) (fault_count self.new) result };
 
     /// Makes a file of so many zero blocks where there is none.

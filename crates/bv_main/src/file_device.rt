@@ -6,6 +6,7 @@ ghost use Rattle.bv_main.specs.Files.{one_call_more, seen_of};
 
 use bv_device::{Block, Device, Failed, LAST_CALL};
 use std::fs::OpenFile;
+use std::io::Error;
 use std::marker::Model;
 use std::os::unix::fs::FileExt;
 
@@ -22,6 +23,7 @@ pub struct FileDevice<F> {
     blocks: u64,
     calls: u64,
     faults: u64,
+    cause: Option<Error>,
 }
 
 impl<F> Model for FileDevice<F> {
@@ -46,7 +48,13 @@ impl<F> FileDevice<F> {
             blocks,
             calls: 0,
             faults: 0,
+            cause: None,
         }
+    }
+
+    /// Why the last call that failed did so, where the system said.
+    pub fn cause(&self) -> Option<Error> {
+        self.cause
     }
 }
 
@@ -70,8 +78,9 @@ impl<F: FileExt + OpenFile> Device for FileDevice<F> {
     }
 
     fn read(&mut self, at: u64, into: &mut Block) -> Result<(), Failed> {
-        if self.file.read_exact_at(into, at * BLOCK).is_ok() {
-            return Ok(());
+        match self.file.read_exact_at(into, at * BLOCK) {
+            Ok(()) => return Ok(()),
+            Err(error) => self.cause = Some(error),
         }
         self.faults = self.faults.saturating_add(1);
         Err(Failed)
@@ -87,8 +96,9 @@ impl<F: FileExt + OpenFile> Device for FileDevice<F> {
     {
         if self.calls < LAST_CALL {
             self.calls += 1;
-            if self.file.write_all_at(from, at * BLOCK).is_ok() {
-                return Ok(());
+            match self.file.write_all_at(from, at * BLOCK) {
+                Ok(()) => return Ok(()),
+                Err(error) => self.cause = Some(error),
             }
         }
         self.faults = self.faults.saturating_add(1);
@@ -102,8 +112,9 @@ impl<F: FileExt + OpenFile> Device for FileDevice<F> {
     {
         if self.calls < LAST_CALL {
             self.calls += 1;
-            if self.file.sync_data().is_ok() {
-                return Ok(());
+            match self.file.sync_data() {
+                Ok(()) => return Ok(()),
+                Err(error) => self.cause = Some(error),
             }
         }
         self.faults = self.faults.saturating_add(1);

@@ -2,6 +2,7 @@
 //! call.
 #![tactic(auto)]
 
+mod access;
 mod device_word;
 mod disk_files;
 mod file_device;
@@ -20,13 +21,15 @@ use crate::reader_source::ReaderSource;
 use crate::writer_sink::WriterSink;
 use bv_io::Sink;
 use bv_serve::{Refusal, Status, refuse};
-use std::io::ErrorKind;
+use std::io::{Error, ErrorKind};
 use std::process::ExitCode;
 use std::{env, io};
 
 fn main(rt: HostRuntime) -> ExitCode {
     let mut out = WriterSink::new(rt.stdout());
-    ExitCode::from(run_program(&rt, &mut out).code())
+    let status = run_program(&rt, &mut out);
+    tell(&rt, "output", out.cause());
+    ExitCode::from(status.code())
 }
 
 // Runs the program with what it writes handed in.
@@ -35,11 +38,31 @@ fn run_program<K: Sink>(rt: &HostRuntime, out: &mut K) -> Status {
         Ok(words) => {
             let mut files = HostFiles::new(rt);
             let mut input = ReaderSource::new(rt.stdin());
-            answer(rt.alloc(), &words, &mut files, &mut input, out)
+            let status = answer(rt.alloc(), &words, &mut files, &mut input, out);
+            tell(rt, "device", device_cause(status, &files));
+            tell(rt, "input", input.cause());
+            status
         }
         Err(error) if error.kind() == ErrorKind::OutOfMemory => refuse(out, Refusal::NoMemory),
         // A word that isn't UTF-8 is part of no command.
         Err(_) => refuse(out, Refusal::Usage),
+    }
+}
+
+// Why the device failed. No system gives a cause for one in memory, which fails for want of memory
+// alone.
+fn device_cause(status: Status, files: &HostFiles<'_>) -> Option<Error> {
+    match files.cause() {
+        None if status == Status::Device => Some(Error::from(ErrorKind::OutOfMemory)),
+        cause => cause,
+    }
+}
+
+// Says on standard error why a call failed, where one did.
+fn tell(rt: &HostRuntime, what: &str, cause: Option<Error>) {
+    if let Some(error) = cause {
+        // Where this can't be told either, nothing is left to tell it to.
+        let _ = eprintln!(rt; "blobfs: {what}: {error}");
     }
 }
 

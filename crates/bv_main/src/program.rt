@@ -6,6 +6,7 @@ ghost use Rattle.bv_main.specs.declared.request.Request.{Request};
 ghost use Rattle.bv_main.specs.Devices.{HasFileRoom};
 ghost use Rattle.bv_main.specs.Program.{Asks, AsksNothing, IsRefused, RunsOn, RunsOnFile, RunsOnWord, Does};
 
+use crate::access::Access;
 use crate::device_word::DeviceWord;
 use crate::disk_files::DiskFiles;
 use crate::request::Request;
@@ -41,17 +42,22 @@ pub fn answer<F: DiskFiles, S: Source, K: Sink>(
             let no_blocks = MemDevice::from_blocks(alloc, Vec::new(alloc));
             run_on(alloc, words, no_blocks, input, out)
         }
-        Some(Request::On { device, command }) => {
-            run_on_word(alloc, device, command, files, input, out)
-        }
+        Some(
+            Request::On {
+                device,
+                access,
+                command,
+            },
+        ) => run_on_word(alloc, device, access, command, files, input, out),
         None => refuse(out, Refusal::Usage),
     }
 }
 
-/// Makes the top call on the device that a word names.
+/// Makes the top call on the device that a word names, opened for such access.
 fn run_on_word<F: DiskFiles, S: Source, K: Sink>(
     alloc: Global,
     device: DeviceWord<'_>,
+    access: Access,
     command: &[String],
     files: &mut F,
     input: &mut S,
@@ -59,7 +65,7 @@ fn run_on_word<F: DiskFiles, S: Source, K: Sink>(
 ) -> Status
     requires { HasFileRoom device }
     ensures { RunsOnWord F.Disk.seen F.fault_count F.open_gives F.make_gives F.close_gives
-        device.entry files.old files.new (map string_bytes command.now) result
+        device.entry access files.old files.new (map string_bytes command.now) result
         (change (S.seen input.old) (S.seen input.new))
         (change (K.seen out.old) (K.seen out.new)) }
 {
@@ -73,7 +79,7 @@ fn run_on_word<F: DiskFiles, S: Source, K: Sink>(
             run_on_file(alloc, command, made, files, input, out)
         }
         DeviceWord::File { path } => {
-            let opened = files.open(path);
+            let opened = files.open(access, path);
             run_on_file(alloc, command, opened, files, input, out)
         }
     }

@@ -2,7 +2,7 @@
 ghost use Rattle.std.specs.Prelude.{◌≡◌};
 
 use bv_io::{Failed, Source};
-use std::io::{ErrorKind, Read};
+use std::io::{Error, ErrorKind, Read};
 
 /// A source over any reader. It knows of the bytes what the reader tells: of standard input
 /// nothing.
@@ -10,6 +10,7 @@ use std::io::{ErrorKind, Read};
 pub struct ReaderSource<R> {
     reader: R,
     faults: u64,
+    cause: Option<Error>,
 }
 
 impl<R: Read> ReaderSource<R> {
@@ -17,7 +18,16 @@ impl<R: Read> ReaderSource<R> {
         ensures reader { result.reader ≡ reader }
         ensures faults { result.faults ≡ 0 }
     {
-        ReaderSource { reader, faults: 0 }
+        ReaderSource {
+            reader,
+            faults: 0,
+            cause: None,
+        }
+    }
+
+    /// Why the last call that failed did so.
+    pub fn cause(&self) -> Option<Error> {
+        self.cause
     }
 }
 
@@ -30,7 +40,10 @@ impl<R: Read> Source for ReaderSource<R> {
                 Ok(count) => return Ok(count),
                 // A signal came first, and nothing was read.
                 Err(error) if error.kind() == ErrorKind::Interrupted => {}
-                Err(_) => break,
+                Err(error) => {
+                    self.cause = Some(error);
+                    break;
+                }
             }
         }
         self.faults = self.faults.saturating_add(1);

@@ -3,6 +3,7 @@
 ghost use Rattle.std.specs.Prelude.{map, string_bytes, IfSome, IfNone};
 ghost use Rattle.bv_main.specs.Program.{Asks, AsksNothing};
 
+use crate::access::Access;
 use crate::device_word::DeviceWord;
 use bv_serve::Command;
 
@@ -15,9 +16,10 @@ pub enum Request<'a> {
     Version,
     /// The command that needs no device.
     Root,
-    /// A command on a device.
+    /// A command on a device, and what it may do to the device's file.
     On {
         device: DeviceWord<'a>,
+        access: Access,
         command: &'a [String],
     },
 }
@@ -34,8 +36,12 @@ impl<'a> Request<'a> {
             [word] if word.as_str() == "root" => Some(Request::Root),
             [word, command @ ..] => {
                 let device = DeviceWord::parse(word)?;
-                Command::parse(command)?;
-                Some(Request::On { device, command })
+                let access = Access::of(Command::parse(command)?);
+                Some(Request::On {
+                    device,
+                    access,
+                    command,
+                })
             }
             [] => None,
         }

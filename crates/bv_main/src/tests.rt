@@ -154,7 +154,7 @@ fn answers(rt: &HostRuntime, line: &str, first: &str) -> Result<Option<Status>, 
 fn words_are_answered_as_their_forms_say(rt: HostRuntime) -> Result<(), Fail> {
     let rows = [
         ("--help", "blobfs: a volume of blobs", Status::Ok),
-        ("--version", "blobfs 0.1.0\nrattle-kit-", Status::Ok),
+        ("--version", "blobfs 0.1.0\n", Status::Ok),
         ("root", "15ec7bf0b50732b4", Status::Ok),
         ("mem:1 root", "15ec7bf0b50732b4", Status::Ok),
         ("help", "usage: root | format B N J |", Status::Usage),

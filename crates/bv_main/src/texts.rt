@@ -1,7 +1,7 @@
 //! The texts of `--help` and `--version`.
 
-/// The program's version, and the kit that proved and built it, as `rt version` names it.
-pub const VERSION: &str = "blobfs 0.1.0\nrattle-kit-13f logic dac8208d650f15bf\n";
+/// The program's version. The script `blobfs` adds the kit that built it.
+pub const VERSION: &str = "blobfs 0.1.0\n";
 
 /// Every command that there is, the device words, the statuses and an example.
 pub const HELP: &str =
@@ -11,7 +11,7 @@ usage:
   blobfs root               print the Merkle root of the input, of at most 67108864 bytes
   blobfs DEVICE COMMAND     do a command on a device
   blobfs --help             print this text
-  blobfs --version          print the version of the program, and of the kit that built it
+  blobfs --version          print the version; the script ./blobfs adds the kit that built it
 
 commands:
   root             the same as without a device
@@ -33,8 +33,9 @@ the journal has M + 3 to 65536, and the device at least M + J + B. A block has 8
 devices:
   mem:BLOCKS         1 to 65536 zero blocks in memory, which are gone afterwards
   new:BLOCKS:PATH    a new file of 1 to 8388608 zero blocks; a file that is there stays as it is
-  file:PATH          the whole blocks of a file that is there
-A new file stays, whatever comes of the command.
+  file:PATH          the whole blocks of a file or block device that is there
+A new file stays, whatever comes of the command. While a command writes a file, no other may have
+it: the file is locked, and refused with status 5. root, list and check read it together.
 
 The exit status is the status:
   0  done
@@ -42,13 +43,16 @@ The exit status is the status:
   2  the input is too long
   3  the input could not be read
   4  the output could not be written
-  5  the device failed, or the file could not be opened or made
+  5  the device failed, or the file could not be opened, made or locked
   6  there is no volume, the counts are out of their limits, or the device is too short
   7  there was no memory
   8  check found damage
-At 1, 2, 3, 5, 6 and 7 one line on standard output says which. A pipe that nobody reads and a
-file at its size limit end the program by a signal, unless SIGPIPE and SIGXFSZ are ignored: the
-script ./blobfs has both ignored. Where it can't build the program, it ends with status 125.
+At 1, 2, 3, 5, 6 and 7 one line on standard output says which. At 3, 4 and 5 one line on standard
+error says why, where the system said so.
+
+A pipe that nobody reads is status 4. A file at its size limit ends the program by SIGXFSZ, and is
+status 5 where that signal is ignored, as the script ./blobfs has it. Where that script can't build
+the program, it ends with status 125.
 
 example:
   printf hi | blobfs root

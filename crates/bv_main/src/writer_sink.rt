@@ -2,7 +2,7 @@
 ghost use Rattle.std.specs.Prelude.{◌≡◌};
 
 use bv_io::{Failed, Sink};
-use std::io::{ErrorKind, Write};
+use std::io::{Error, ErrorKind, Write};
 
 /// A sink over any writer, which is given each piece as it comes. It knows of the bytes what the
 /// writer tells: of standard output nothing.
@@ -10,6 +10,7 @@ use std::io::{ErrorKind, Write};
 pub struct WriterSink<W> {
     writer: W,
     faults: u64,
+    cause: Option<Error>,
 }
 
 impl<W: Write> WriterSink<W> {
@@ -17,7 +18,16 @@ impl<W: Write> WriterSink<W> {
         ensures writer { result.writer ≡ writer }
         ensures faults { result.faults ≡ 0 }
     {
-        WriterSink { writer, faults: 0 }
+        WriterSink {
+            writer,
+            faults: 0,
+            cause: None,
+        }
+    }
+
+    /// Why the last call that failed did so, where the writer said.
+    pub fn cause(&self) -> Option<Error> {
+        self.cause
     }
 }
 
@@ -35,7 +45,10 @@ impl<W: Write> Sink for WriterSink<W> {
                 Ok(count) => return Ok(count),
                 // A signal came first, and nothing was written.
                 Err(error) if error.kind() == ErrorKind::Interrupted => {}
-                Err(_) => break,
+                Err(error) => {
+                    self.cause = Some(error);
+                    break;
+                }
             }
         }
         self.faults = self.faults.saturating_add(1);

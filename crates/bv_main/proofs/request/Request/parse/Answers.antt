@@ -22,5 +22,5 @@ returns-in-len1-3-clause-some c =
 
 pub returns-in_ok-parse-in-len1-up-clause-some : goal.returns-in_ok-parse-in-len1-up-clause-some
 returns-in_ok-parse-in-len1-up-clause-some c =
-    is_run _ c.args.words.now c.word-item-2.result _ c.in_ok-device-in-len1-up.device c.in_ok-parse-in-len1-up.field-0 (search rules) c.word-item-2.is
-    c.deref.ensures c.in_ok-device-in-len1-up.ensures.some c.in_ok-parse-in-len1-up.ensures.some
+    is_run _ c.args.words.now c.word-item-2.result _ c.in_ok-device-in-len1-up.device _ c.in_ok-parse-in-len1-up.field-0 (search rules) c.word-item-2.is
+    c.deref.ensures c.in_ok-device-in-len1-up.ensures.some c.in_ok-parse-in-len1-up.ensures.some c.of-access.ensures
