@@ -67,7 +67,7 @@ length-tree {X} version size xs need = go (version == 2)
     go false = length-take (length xs - data_blocks size) xs ∙ omega (arith, need)
 
 -- functions that agree on a range
-same-on : {X : Type 0} (f g : ℕ → X) (a n : ℕ) → ((i : ℕ) → a ≤ i → i < a + n → f i ≡ g i) → map f (range_with_len a n) ≡ map g (range_with_len a n)
+pub same-on : {X : Type 0} (f g : ℕ → X) (a n : ℕ) → ((i : ℕ) → a ≤ i → i < a + n → f i ≡ g i) → map f (range_with_len a n) ≡ map g (range_with_len a n)
 same-on f g a zero same = refl
 same-on f g a (suc n) same =
     ap (λ x. x ∷ map f (range_with_len (a + 1) n)) (same a (omega arith) (omega arith))

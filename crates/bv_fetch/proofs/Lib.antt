@@ -4,3 +4,4 @@ pub mod Sums
 pub mod Amongs
 pub mod Compacts
 pub mod Steps
+pub mod Written

@@ -96,7 +96,7 @@ abbrev pub piece_bytes : ℕ → ℕ → ℕ → ℕ
 piece_bytes size w k = min (window_bytes size w - 8192 * k) 8192
 
 -- the fewer of two numbers of bytes
-take-fewer : (a b : ℕ) (xs : List ℕ) → take a (take b xs) ≡ take (min b a) xs
+pub take-fewer : (a b : ℕ) (xs : List ℕ) → take a (take b xs) ≡ take (min b a) xs
 take-fewer a b xs = elim (cases_lt a b) [ inl less ↦ shorter less | inr more ↦ longer more ]
   where
     shorter : a < b → take a (take b xs) ≡ take (min b a) xs

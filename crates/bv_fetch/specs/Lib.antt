@@ -1,3 +1,4 @@
 -- What a read of a window does, and what it gives.
+pub mod Laws
 pub mod Reading
 pub mod Windows

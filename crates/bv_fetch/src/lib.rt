@@ -2,6 +2,7 @@
 #![tactic(auto)]
 
 mod data;
+mod laws;
 mod places;
 mod pushing;
 mod tree;
@@ -9,6 +10,7 @@ mod window;
 
 pub use bv_proof::RawWindow;
 pub use bv_store::{Block, Failed, Store};
+pub use laws::written_blobs_verify;
 pub use window::{read_window, room_for};
 
 /// The bytes of a block.

@@ -25,7 +25,7 @@ length-digest_bytes (x ∷ xs) sized =
     length-append x.0 (digest_bytes xs) ∙ omega (arith, sized.0, length-digest_bytes xs sized.1)
 
 -- the first of them
-digest_bytes-take : (n : ℕ) (xs : List Digest) → AreDigests xs → digest_bytes (take n xs) ≡ take (32 * n) (digest_bytes xs)
+pub digest_bytes-take : (n : ℕ) (xs : List Digest) → AreDigests xs → digest_bytes (take n xs) ≡ take (32 * n) (digest_bytes xs)
 digest_bytes-take zero xs sized = refl
 digest_bytes-take (suc n) [] sized = sym (take-nil (32 * suc n))
 digest_bytes-take (suc n) (x ∷ xs) sized =
@@ -35,7 +35,7 @@ digest_bytes-take (suc n) (x ∷ xs) sized =
     ∙ ap (λ (k : ℕ). take k (x.0 ++ digest_bytes xs)) count
 
 -- and the rest
-digest_bytes-drop : (n : ℕ) (xs : List Digest) → AreDigests xs → digest_bytes (drop n xs) ≡ drop (32 * n) (digest_bytes xs)
+pub digest_bytes-drop : (n : ℕ) (xs : List Digest) → AreDigests xs → digest_bytes (drop n xs) ≡ drop (32 * n) (digest_bytes xs)
 digest_bytes-drop zero xs sized = refl
 digest_bytes-drop (suc n) [] sized = sym (drop-nil (32 * suc n))
 digest_bytes-drop (suc n) (x ∷ xs) sized =
@@ -44,7 +44,7 @@ digest_bytes-drop (suc n) (x ∷ xs) sized =
     ∙ sym (drop-append-add x.0 (digest_bytes xs) (32 * n))
     ∙ ap (λ (k : ℕ). drop k (x.0 ++ digest_bytes xs)) count
 
-AreDigests-drop : (n : ℕ) (xs : List Digest) → AreDigests xs → AreDigests (drop n xs)
+pub AreDigests-drop : (n : ℕ) (xs : List Digest) → AreDigests xs → AreDigests (drop n xs)
 AreDigests-drop zero xs sized = sized
 AreDigests-drop (suc n) [] sized = tt
 AreDigests-drop (suc n) (x ∷ xs) sized = AreDigests-drop n xs sized.1

@@ -23,7 +23,7 @@ flat-map f [] = refl
 flat-map f (x ∷ xs) = ap (λ ys. f x ++ ys) (flat-map f xs)
 
 -- how many they are
-length-levels : (bytes : List ℕ) (a n : ℕ)
+pub length-levels : (bytes : List ℕ) (a n : ℕ)
     → length (flat_map (λ (blocks : List (List ℕ)). blocks) (map (λ level. all_blocks (level_of bytes level)) (range_with_len a n)))
     ≡ sum_by (digests_at (length bytes)) (range_with_len (a + 1) n)
 length-levels bytes a zero = refl
@@ -35,7 +35,7 @@ length-levels bytes a (suc n) =
     length-append (all_blocks (level_of bytes a)) _ ∙ omega (arith, here, next, length-levels bytes (a + 1) n)
 
 -- how many digests some levels have
-length-digests : (bytes : List ℕ) (a n : ℕ) → length (flat_map (level_of bytes) (range_with_len a n)) ≡ sum_by (digests_at (length bytes)) (range_with_len a n)
+pub length-digests : (bytes : List ℕ) (a n : ℕ) → length (flat_map (level_of bytes) (range_with_len a n)) ≡ sum_by (digests_at (length bytes)) (range_with_len a n)
 length-digests bytes a zero = refl
 length-digests bytes a (suc n) =
     let f = digests_at (length bytes) in
@@ -74,7 +74,7 @@ within_need version size v s tree i same_version same_size low count =
 data-at : (bytes : List ℕ) (i : ℕ) → i < data_blocks (length bytes) → get_or (data_of bytes) i [] ≡ filled (piece bytes i)
 data-at bytes i low = get_or-map-range_with_len (λ (k : ℕ). filled (piece bytes k)) 0 (data_blocks (length bytes)) i i [] low (omega arith)
 
-length-data_of : (bytes : List ℕ) → length (data_of bytes) ≡ data_blocks (length bytes)
+pub length-data_of : (bytes : List ℕ) → length (data_of bytes) ≡ data_blocks (length bytes)
 length-data_of bytes = length-map-range_with_len (λ (k : ℕ). filled (piece bytes k)) 0 (data_blocks (length bytes))
 
 module _ (version : ℕ) (tree : List (List ℕ)) (bytes bs : List ℕ) (same : bs ≡ bytes) where

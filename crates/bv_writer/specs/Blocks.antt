@@ -7,10 +7,10 @@
 --
 -- Zeros fill the last block of the data, in version 1 that of each level, in version 2 that of the
 -- digests.
-use Rattle.std.specs.Prelude.{ℕ, List, ◌++◌, length, map, if◌then◌else◌, ◌==◌}
+use Rattle.std.specs.Prelude.{◌≡◌, ℕ, List, ◌++◌, length, map, if◌then◌else◌, ◌==◌}
 use Rattle.std.specs.List.{range_with_len, flat_map}
 use Rattle.spec_tree.specs.declared.Digest.{Digest}
-use Rattle.spec_tree.specs.Tree.{level_of, levels_of, data_blocks, piece, filled}
+use Rattle.spec_tree.specs.Tree.{level_of, levels_of, data_blocks, piece, filled, root_of}
 use Rattle.bv_merkle.specs.Built.{tree_levels}
 use Rattle.bv_merkle.specs.Levels.{all_blocks}
 
@@ -39,3 +39,10 @@ tree_blocks version bytes =
 -- the blocks of a blob with these bytes, in the order of its extents
 abbrev pub blob_blocks : ℕ → List ℕ → List (List ℕ)
 blob_blocks version bytes = placed version (tree_blocks version bytes) (data_of bytes)
+
+-- these are the blocks, tree and data in their order, of some bytes with this root and size
+pub record IsBlobOf (version : ℕ) (root : Digest) (size : ℕ) (blocks : List (List ℕ)) : Type 0 where
+  pub bytes : List ℕ
+  pub root_is : root_of bytes ≡ root
+  pub long : length bytes ≡ size
+  pub blocks_are : blocks ≡ blob_blocks version bytes
