@@ -26,7 +26,7 @@ use Rattle.spec_inspect.specs.Inspection.{Inspection, inspection_of, inspect_of}
 use Rattle.spec_inspect.specs.Laws.{HasVolume, HasNone}
 use Rattle.spec_inspect.proofs.OutcomeLemmas.{inspected, volume_or_none}
 use Rattle.spec_meta.specs.Blocks.{metadata_at}
-use Rattle.spec_core.specs.History.{opening_map}
+use Rattle.spec_core.specs.History.{History, opening_map}
 use Rattle.spec_crash.specs.Crash.{HoldsWhole, CrashPrefix}
 use Rattle.spec_laws.specs.Keeps.{KeepsBlobs}
 use Rattle.spec_laws.proofs.KeepLemmas.{keeps_theorem}
@@ -37,7 +37,7 @@ use Rattle.bv_journal.specs.Plans.{recover_plan}
 use Rattle.bv_journal.specs.Rests.{AtRest}
 use Rattle.bv_mount.specs.declared.inspected.Inspected.{Inspected}
 use Rattle.bv_mount.specs.Inspects.{inspection, IsInspected}
-use Rattle.bv_mount.specs.Recovers.{plan_for, next_for}
+use Rattle.bv_mount.specs.Recovers.{plan_for, next_for, KeepsVolume}
 use Rattle.bv_mount.proofs.KeepLemmas.{meta_geometry, plan_keeps, plan_rests}
 use Rattle.bv_ring.specs.Cursor.{cursor_at, StandsBehind}
 use Rattle.bv_journaled.specs.Kept.{map_at, KeepsMap}
@@ -85,6 +85,13 @@ records_whole i j is holds r c =
     let m : Metadata = metadata_at i.meta.geometry i.meta.blocks in
     (whole_known j m r (image_metadata i j is) c).0
     (known_at (IsWhole j) (blob_map (records_in i)) r.root (value_of r) (value_known m r (well i) c) holds.whole)
+
+-- a run that keeps the volume keeps the theorem of stops of a mount without an event
+pub kept_theorem : (d : Disk) (told : Option Disk) (h : History) (kept : KeepsVolume d told) → h.events ≡ [] → HoldsWhole (now_of d) (opening_map h) → CrashPrefix (now_of d) kept.events h
+kept_theorem d told h kept none holds =
+    keeps_theorem (now_of d) kept.events h none (λ n le j image fair.
+    let stays = kept.stops n le j image fair in
+    record { is = stays.map ∙ holds.is; whole = λ k e lt. stays.whole (get_or (opening_map h) k e).0 (holds.whole k e lt) })
 
 -- ---- the recovery
 

@@ -2,9 +2,11 @@
 #![tactic(auto)]
 
 mod holding;
+mod laws;
 mod mounting;
 mod opening;
 mod taken;
 mod taking;
 
+pub use laws::a_kept_volume_keeps_the_theorem_of_stops;
 pub use mounting::mount;
