@@ -1,5 +1,5 @@
 -- For callers of `mount`: what an inspection has just said of the device is what a mount asks.
-use Rattle.std.proofs.Common.{◌≡◌, ◌≤◌, Option, Some, None, IfSome, sym, subst, arith}
+use Rattle.std.proofs.Common.{◌≤◌, Option, Some, None, IfSome, sym, subst, arith}
 use Rattle.spec_disk.specs.Images.{IsSettled}
 use Rattle.spec_record.specs.Geometry.{total_blocks}
 use Rattle.bv_device.specs.Told.{Disk, now_of}

@@ -1,7 +1,7 @@
 -- As a mount begins, the boss owns the blocks of the opening's blobs.
-use Rattle.std.proofs.Common.{◌≡◌, ◌<◌, ◌≤◌, ◌⊎◌, ℕ, zero, suc, ◌+◌, ◌-◌, List, [], ◌∷◌, length, get_or, true, refl, ap, sym, ◌∙◌, subst, inl, inr, arith}
+use Rattle.std.proofs.Common.{◌≡◌, ◌<◌, ◌≤◌, ℕ, zero, suc, ◌+◌, List, [], ◌∷◌, length, get_or, true, ap, sym, ◌∙◌, subst, inl, inr, arith}
 use Rattle.std.proofs.lemmas.List.Elements.{All-contains_itself}
-use Rattle.std.specs.Prelude.{All, Contains}
+use Rattle.std.specs.Prelude.{All}
 use Rattle.spec_record.specs.declared.extent.Extent.{Extent}
 use Rattle.spec_record.specs.declared.geometry.Geometry.{Geometry}
 use Rattle.spec_image.specs.Blobs.{blob_map}
@@ -24,7 +24,7 @@ use Rattle.bv_mount.specs.declared.inspected.Inspected.{Inspected}
 use Rattle.bv_ring.specs.Cursor.{Cursor}
 use Rattle.bv_space.specs.Owned.{Owned}
 use Rattle.bv_txn.specs.Metas.{metadata_of}
-use Rattle.bv_journaled.specs.Standing.{stored_of, placed_of, placed_at, IsHeld}
+use Rattle.bv_journaled.specs.Standing.{stored_of, placed_of, IsHeld}
 use Rattle.bv_volume.specs.Spaced.{IsFresh, times_placed}
 use Rattle.bv_volume.proofs.Freed.{is_placed}
 use Rattle.bv_mounted.specs.Mounts.{records_in, blocks_of_all, history_of, first_standing}

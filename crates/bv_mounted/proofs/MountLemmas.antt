@@ -1,12 +1,10 @@
 -- What a mount answers: the volume, or the device with the fault of a call.
-use Rattle.std.proofs.Common.{◌≡◌, ◌≤◌, ℕ, ◌+◌, ◌-◌, List, [], length, Option, Some, None, Result, Ok, Err, IfSome, refl, ap, sym, ◌∙◌, subst, arith}
+use Rattle.std.proofs.Common.{◌≡◌, ◌≤◌, ℕ, ◌-◌, length, Option, Some, None, Ok, Err, IfSome, refl, ap, sym, ◌∙◌, subst, arith}
 use Rattle.std.specs.Prelude.{option_map}
-use Rattle.spec_disk.specs.declared.event.Event.{Event}
 use Rattle.spec_disk.specs.Images.{IsSettled}
 use Rattle.spec_record.specs.Geometry.{total_blocks}
 use Rattle.spec_image.specs.Blobs.{blob_map}
 use Rattle.spec_image.specs.Volume.{blobs}
-use Rattle.spec_inspect.specs.declared.mount_fault.MountFault.{MountFault}
 use Rattle.spec_inspect.specs.declared.mount_fault.MountFault.TheVariants as mount
 use Rattle.spec_core.specs.History.{History, opening_map}
 use Rattle.bv_claims.specs.declared.claims.Claims.{Claims}

@@ -1,13 +1,12 @@
 -- The blobs of well-formed metadata lie at as many blocks as they need, each root once.
-use Rattle.std.proofs.Common.{◌≡◌, ◌≤◌, ℕ, ◌+◌, List, [], ◌∷◌, ◌++◌, length, eqb, Option, Some, None, Ok, refl, ap, sym, ◌∙◌, subst, arith, length-append}
+use Rattle.std.proofs.Common.{◌≡◌, ◌≤◌, ℕ, List, [], ◌∷◌, length, eqb, Option, Some, None, Ok, refl, ap, sym, ◌∙◌, arith, length-append}
 use Rattle.std.proofs.lemmas.List.FromFn.{length-range_with_len}
 use Rattle.std.proofs.lemmas.List.Sums.{sum_by-cons}
 use Rattle.std.specs.Prelude.{Contains, option_map, sum_by}
-use Rattle.std.specs.BTreeMap.{is_at}
 use Rattle.std.specs.List.{range_with_len}
-use Rattle.std.specs.Map.{lookup, values_of}
+use Rattle.std.specs.Map.{values_of}
 use Rattle.spec_tree.specs.declared.Digest.{Digest}
-use Rattle.spec_tree.specs.Order.{digest_cmp, same_digest}
+use Rattle.spec_tree.specs.Order.{same_digest}
 use Rattle.spec_tree.specs.Tree.{need_of}
 use Rattle.spec_disk.proofs.ImageLemmas.{Contains-head, Contains-cons}
 use Rattle.spec_record.specs.declared.extent.Extent.{Extent}
@@ -15,7 +14,7 @@ use Rattle.spec_record.specs.declared.inode.Inode.{Inode}
 use Rattle.spec_record.specs.declared.node_fault.NodeFault.TheVariants as faults
 use Rattle.spec_record.proofs.TestLemmas.{equal}
 use Rattle.spec_image.specs.Blobs.{value_of, blob_map}
-use Rattle.spec_image.specs.Chain.{BlobRecord, wants, lengths, check_counts, chain}
+use Rattle.spec_image.specs.Chain.{BlobRecord, wants, lengths, check_counts}
 use Rattle.spec_image.specs.Metadata.{Metadata}
 use Rattle.spec_image.specs.Stored.{blocks_of}
 use Rattle.spec_image.specs.Volume.{blob_in}

@@ -1,5 +1,5 @@
 -- What a recovery leaves a mount with: the theorem of stops, and a store that can go on.
-use Rattle.std.proofs.Common.{◌≡◌, ◌<◌, ◌≤◌, ◌⊎◌, ℕ, zero, suc, ◌+◌, ◌%◌, List, [], ◌∷◌, ◌++◌, length, map, take, get_or, Bool, true, false, cond, Option, Some, None, Result, Ok, Err, IfSome, refl, ap, sym, ◌∙◌, subst, inl, inr, arith}
+use Rattle.std.proofs.Common.{◌≡◌, ◌<◌, ◌≤◌, ◌⊎◌, ℕ, suc, ◌+◌, ◌%◌, [], ◌∷◌, length, map, get_or, Bool, true, false, cond, Option, Some, None, Result, Ok, Err, refl, ap, sym, ◌∙◌, subst, inl, inr, arith}
 use Rattle.std.specs.Prelude.{All, Contains, option_map}
 use Rattle.std.proofs.Math.Nat.{mod-eq_of_lt}
 use Rattle.std.specs.BTreeMap.{is_at}
@@ -9,9 +9,7 @@ use Rattle.spec_tree.specs.declared.blob.Blob.{Blob}
 use Rattle.spec_tree.specs.Order.{digest_cmp}
 use Rattle.spec_tree.specs.Tree.{root_of}
 use Rattle.spec_disk.specs.Disk.{Blocks}
-use Rattle.spec_disk.specs.Images.{IsSettled}
 use Rattle.spec_record.specs.declared.geometry.Geometry.{Geometry}
-use Rattle.spec_record.specs.declared.info.Info.{Info}
 use Rattle.spec_record.specs.Geometry.{IsGeometry, ring_slots, total_blocks}
 use Rattle.spec_image.specs.Blobs.{value_of, blob_map}
 use Rattle.spec_image.specs.Chain.{BlobRecord}
@@ -42,7 +40,7 @@ use Rattle.bv_mount.proofs.KeepLemmas.{meta_geometry, plan_keeps, plan_rests}
 use Rattle.bv_ring.specs.Cursor.{cursor_at, StandsBehind}
 use Rattle.bv_journaled.specs.Kept.{map_at, KeepsMap}
 use Rattle.bv_journaled.proofs.RecoveryLemmas.{recovered_kept}
-use Rattle.bv_mounted.specs.Mounts.{records_in, opening_of, history_of, recovered}
+use Rattle.bv_mounted.specs.Mounts.{records_in, opening_of, history_of}
 use Rattle.bv_mounted.proofs.FreshLemmas.{is_formed, well}
 
 -- ---- the metadata of an image

@@ -1,5 +1,5 @@
 -- What a mount begins with, and what it answers (this project's profile).
-use Rattle.std.specs.Prelude.{◌≡◌, ℕ, List, [], length, map, Option, Some, None, option_map, Result, Err, IfSome}
+use Rattle.std.specs.Prelude.{◌≡◌, ℕ, List, [], length, map, Some, None, option_map, Err, IfSome}
 use Rattle.std.specs.List.{flat_map}
 use Rattle.spec_tree.specs.declared.Digest.{Digest}
 use Rattle.spec_disk.specs.Images.{IsSettled}

@@ -1,10 +1,10 @@
-use Rattle.std.proofs.Common.{◌≡◌, ◌<◌, ◌+◌, ℕ, List, ◌++◌, length, take, get_or, ap, sym, ◌∙◌, subst, arith, append_assoc, length-append}
+use Rattle.std.proofs.Common.{◌≡◌, ◌+◌, ℕ, List, ◌++◌, length, take, get_or, ap, sym, ◌∙◌, subst, arith, append_assoc, length-append}
 use Rattle.std.proofs.lemmas.List.FromFn.{length-range_with_len}
 use Rattle.std.specs.List.{range_with_len}
 use Rattle.spec_record.specs.declared.extent.Extent.{Extent}
 use Rattle.spec_image.specs.Stored.{blocks_of}
 use Rattle.bv_claims.specs.Blocks.{HasEachOnce}
-use Rattle.bv_claims.specs.Tokens.{boss_owned, boss_room}
+use Rattle.bv_claims.specs.Tokens.{boss_owned}
 use Rattle.bv_mounted.proofs.HoldLemmas.{extent_blocks, flat_more, consecutive_is, none_before, not_owned}
 use Rattle.bv_mounted.proofs.holding.hold_extents.Goals as goal
 
