@@ -1,5 +1,6 @@
 //! Laws of the definitions: what each function here ensures holds of all values.
 
+ghost use Rattle.spec_orderly.specs.Named.{ConformingTellRoots};
 ghost use Rattle.spec_orderly.specs.Orderly.{AddsAreApart, OwnAddsAreUnderWay};
 
 /// The add that a session has under way by its own events is under way in the core, with its size.
@@ -10,4 +11,9 @@ pub fn an_own_add_is_under_way()
 /// No two sessions have an add of one root under way.
 pub fn adds_of_two_sessions_have_two_roots()
     ensures { AddsAreApart }
+{}
+
+/// Where each session did its lines, the history names the root of each line that has one.
+pub fn conforming_sessions_tell_the_roots()
+    ensures { ConformingTellRoots }
 {}
