@@ -277,6 +277,9 @@ def check_devices(folder, program):
     limited = 'ulimit -v 200000; exec "$0" mem:16467 format 64 128 16400'
     done = run(["bash", "-c", limited, program])
     expect_run("no memory for a write", done, 5, FAULT, cause_of("device", "out of memory"))
+    for words, line in [(["root"], HI), (["mem:83", "format", *COUNTS], b"formatted\n")]:
+        done = run(["bash", "-c", 'ulimit -S -s 640; exec "$0" "$@"', program, *words])
+        expect_run(f"640 KiB of stack for {words}", done, 0, line)
     if not shutil.which("strace"):
         skipped.append("the sync of a new file's folder (no strace)")
         return

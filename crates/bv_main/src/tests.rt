@@ -256,6 +256,26 @@ fn a_new_file_is_formatted_and_opened_again(rt: HostRuntime) -> Result<(), Fail>
 }
 
 #[test]
+fn one_program_writes_a_file_or_several_read_it(rt: HostRuntime) -> Result<(), Fail> {
+    let made = answers(&rt, "new:83:held.img format 64 128 16", "formatted\n")?;
+    assert_eq!(rt; made, Some(Status::Ok));
+    let held = File::open(&rt, "held.img")?;
+    held.lock_shared()?;
+    let listed = answers(&rt, "file:held.img list", "")?;
+    assert_eq!(rt; listed, Some(Status::Ok));
+    let refused = answers(&rt, "file:held.img recover", "device: fault\n")?;
+    assert_eq!(rt; refused, Some(Status::Device));
+    held.lock()?;
+    let refused = answers(&rt, "file:held.img check", "device: fault\n")?;
+    assert_eq!(rt; refused, Some(Status::Device));
+    held.unlock()?;
+    let recovered = answers(&rt, "file:held.img recover", "recovered 0\n")?;
+    assert_eq!(rt; recovered, Some(Status::Ok));
+    fs::remove_file(&rt, "held.img")?;
+    Ok(())
+}
+
+#[test]
 fn a_file_of_less_than_a_block_has_none(rt: HostRuntime) -> Result<(), Fail> {
     fs::write(&rt, "short.img", "less than a block")?;
     let status = answers(
