@@ -42,7 +42,7 @@ fn blob_of(alloc: Global, meta: &Meta, node: u64) -> Result<Option<BlobRec>, All
 {
     let geometry = meta.geometry();
     let from = (1 + geometry.bitmap()) as usize;
-    let nodes = NodeMap::from_blocks(alloc, &meta.blocks()[from..])?;
+    let nodes = NodeMap::new(&meta.blocks()[from..]);
     blob_at(alloc, &nodes, &geometry, node as u32)
 }
 

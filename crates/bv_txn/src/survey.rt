@@ -28,12 +28,12 @@ pub struct Survey {
 }
 
 /// The node map in these metadata blocks.
-fn node_map(alloc: Global, geometry: &Geometry, base: &[Block]) -> Result<NodeMap, AllocError>
+fn node_map<'a>(geometry: &Geometry, base: &'a [Block]) -> NodeMap<'a>
     requires { IsLawful geometry.now base.now }
-    ensures { IfOk result (λ map. map ≡ node_map_in geometry.now base.now) }
+    ensures { result ≡ node_map_in geometry.now base.now }
 {
     let from = (1 + geometry.bitmap()) as usize;
-    NodeMap::from_blocks(alloc, &base[from..])
+    NodeMap::new(&base[from..])
 }
 
 /// The survey of these metadata blocks.
@@ -44,7 +44,7 @@ fn surveyed(alloc: Global, geometry: &Geometry, base: &[Block]) -> Result<Survey
     ensures faults { IfOk result (λ s.
         s.faults.items ≡ survey_of (metadata_at geometry.now base.now)) }
 {
-    let nodes = node_map(alloc, geometry, base)?;
+    let nodes = node_map(geometry, base);
     let Survey { blobs, mut faults } = read_chains(alloc, geometry, &nodes)?;
     let placed = placed_nodes(alloc, geometry.nodes, &blobs)?;
     add_orphans(&nodes, geometry.version, &placed, &mut faults)?;
