@@ -13,8 +13,8 @@ use Rattle.spec_core.specs.declared.who.Who.{Who}
 use Rattle.spec_session.specs.Own.{OwnAdd}
 use Rattle.spec_tree.specs.declared.Digest.{Digest}
 use Rattle.spec_tree.specs.Tree.{data_blocks, need_of, filled, piece}
-use Rattle.bv_writer.specs.Blocks.{blob_blocks, data_of, tree_blocks}
-use Rattle.bv_writer.specs.Plans.{IsBlobOf, IsPlanOf, Plan}
+use Rattle.bv_writer.specs.Blocks.{IsBlobOf, blob_blocks, data_of, tree_blocks}
+use Rattle.bv_writer.specs.Plans.{IsPlanOf, Plan}
 use Rattle.bv_writer.proofs.PlacedLemmas.{length-tree_blocks}
 use Rattle.bv_session.specs.declared.entry.Basis.{Basis}
 use Rattle.bv_session.specs.declared.entry.Entry.{Entry}
@@ -93,15 +93,20 @@ placed_length false tree content = omega (arith, length-append tree content)
 pub blob_length : (version : ℕ) (root : Digest) (size : ℕ) (blocks : List (List ℕ)) → IsBlobOf version root size blocks → length blocks ≡ need_of version size
 unfolding need_of
 blob_length version root size blocks blob =
-    let bytes = blob.0 in
+    let bytes = blob.bytes in
     let count : length (data_of bytes) ≡ data_blocks (length bytes) = length-map-range_with_len (λ (i : ℕ). filled (piece bytes i)) 0 (data_blocks (length bytes)) in
-    ap length blob.3 ∙ placed_length (version == 2) (tree_blocks version bytes) (data_of bytes)
+    ap length blob.blocks_are ∙ placed_length (version == 2) (tree_blocks version bytes) (data_of bytes)
     ∙ (λ i. count i + length-tree_blocks version bytes i)
-    ∙ ap (need_of version) blob.2
+    ∙ ap (need_of version) blob.long
 
 -- a plan is of a blob
 pub plan_is : (a : Plan) (version : ℕ) (bytes : List ℕ) → IsPlanOf a version bytes → IsBlobOf a.version a.root a.size a.blocks
-plan_is a version bytes p = (bytes, sym p.of_root, sym p.of_size, p.of_blocks ∙ ap (λ (v : ℕ). blob_blocks v bytes) (sym p.of_version))
+plan_is a version bytes p = record {
+  bytes = bytes;
+  root_is = sym p.of_root;
+  long = sym p.of_size;
+  blocks_are = p.of_blocks ∙ ap (λ (v : ℕ). blob_blocks v bytes) (sym p.of_version);
+}
 
 -- ---- the puts of an add
 

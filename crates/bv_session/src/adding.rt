@@ -1,7 +1,7 @@
 //! An add line: begin, claim, admit, every put, and settle.
 ghost use Rattle.std.specs.Prelude.{◌≡◌, ◌≤◌, ◌+◌, [], None, Some, length};
 ghost use Rattle.bv_turn.specs.Tokens.{list_of};
-ghost use Rattle.bv_writer.specs.Plans.{IsBlobOf};
+ghost use Rattle.bv_writer.specs.Blocks.{IsBlobOf};
 ghost use Rattle.spec_tree.specs.Tree.{need_of};
 ghost use Rattle.spec_session.specs.Lines.{admits};
 ghost use Rattle.spec_session.specs.Own.{new_add, add_of};

@@ -11,7 +11,7 @@ ghost use Rattle.bv_claims.specs.Tokens.{IsGrantOf, IsClaimedOf, grant_need, cla
 ghost use Rattle.bv_session.specs.declared.entry.Entry.{Entry};
 ghost use Rattle.bv_session.specs.declared.entry.Basis.{Basis};
 ghost use Rattle.bv_turn.specs.Entries.{entries_of};
-ghost use Rattle.bv_writer.specs.Plans.{IsBlobOf};
+ghost use Rattle.bv_writer.specs.Blocks.{IsBlobOf};
 ghost use Rattle.bv_session.specs.Events.{own_events, history_of, Notes, NotesAs, IfRefused, IsReadFault, IsRefusal, IfDone, IfRefuses, reply_by, reply_or, IsUnderWay, IsLook, put_by, SurvivesFrom};
 ghost use Rattle.bv_session.specs.Written.{Wrote, written};
 ghost use Rattle.bv_session.specs.Disk.{IsOnDisk, EachTells, EachLists};

@@ -7,7 +7,7 @@ ghost use Rattle.spec_core.specs.declared.reply.Reply.TheVariants.{Granted, Admi
 ghost use Rattle.spec_session.specs.Own.{new_add, admitted_add, add_of, slot_holds};
 ghost use Rattle.bv_claims.specs.Tokens.{IsGrantOf, IsClaimedOf, grant_need, claimed_gained, claimed_left};
 ghost use Rattle.bv_turn.specs.Tokens.{list_of};
-ghost use Rattle.bv_writer.specs.Plans.{IsBlobOf};
+ghost use Rattle.bv_writer.specs.Blocks.{IsBlobOf};
 ghost use Rattle.bv_session.specs.Events.{IfRefused, IsReadFault, IsRefusal, IfDone, IfRefuses, reply_by, reply_or, IsUnderWay, IsLook, put_by};
 ghost use Rattle.bv_session.specs.Written.{Writes, written};
 ghost use Rattle.bv_pager.specs.Reading.{FitsIn};

@@ -17,9 +17,3 @@ pub record IsPlanOf (a : Plan) (version : ℕ) (bytes : List ℕ) : Type 0 where
   pub of_root : a.root ≡ root_of bytes
   pub of_size : a.size ≡ length bytes
   pub of_blocks : a.blocks ≡ blob_blocks version bytes
-
--- these are the blocks of a blob with this root and size, as this version lays them out
-abbrev pub IsBlobOf : ℕ → Digest → ℕ → List (List ℕ) → Type 0
-IsBlobOf version root size blocks =
-    (bytes : List ℕ) × (root_of bytes ≡ root) × (length bytes ≡ size)
-    × (blocks ≡ blob_blocks version bytes)
