@@ -31,6 +31,8 @@ use Rattle.bv_ledger.specs.Tables as L
 use Rattle.bv_ledger.specs.Tables.{Tables}
 use Rattle.bv_ledger.proofs.Sums.{sum_less}
 use Rattle.bv_store.specs.Stored.{Stored, Entry, CanWrite, HasBlob, IsThere, blocks_in, blocks_on, entry_changes, nodes_taken, placed_after, placed_without, taken_by, LeavesThird}
+use Rattle.bv_writer.specs.Blocks.{IsBlobOf}
+use Rattle.bv_fetch.proofs.Written.{written_blobs_verify}
 use Rattle.bv_volume.specs.Adding.{IsAdmitted, IsPut}
 use Rattle.bv_volume.specs.Events.{event_of}
 use Rattle.bv_volume.specs.Kept.{Kept, seen_of}
@@ -104,10 +106,11 @@ module _ (n : Noted) (next : ℕ) (t new : Tables) (o o' : Owned) (s z w : Store
     pub taken_free : (b : ℕ) → Contains (taken_by entry.published) b → MidHeld b → ⊥
     taken_free b has held = may_lie.free b (subst (λ (xs : List ℕ). Contains xs b) p.same has) (mid_held b held)
 
-    there : (d : Option Disk) → IfSome d (λ x. IfSome (find o.adds a.root) (λ v. HasBlob a.root (record { size = a.size; version = n.history.version }) (blocks_on s.geometry x v.items))) → IsThere s.geometry d entry.published
+    there : (d : Option Disk) → IfSome d (λ x. IfSome (find o.adds a.root) (λ v. IsBlobOf n.history.version a.root a.size (blocks_on s.geometry x v.items))) → IsThere s.geometry d entry.published
     there None h = tt
     there (Some d) h =
-        let at = rw (old.has) at h in
+        let written = rw (old.has) at h in
+        let at = written_blobs_verify n.history.version a.size a.root _ written in
         subst (λ (v : ℕ). HasBlob a.root (record { size = a.size; version = v }) (blocks_on s.geometry d p.copy.items)) (sym (same_version n next t s Both kept))
         (subst (λ (xs : List ℕ). HasBlob a.root (record { size = a.size; version = n.history.version }) (blocks_on s.geometry d xs)) (sym p.same) at)
 

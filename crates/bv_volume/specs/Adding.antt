@@ -20,7 +20,8 @@ use Rattle.bv_claims.specs.declared.claims.Claims.{Claims}
 use Rattle.bv_ledger.specs.Entries.{Grants}
 use Rattle.bv_ledger.specs.Tables.{Tables}
 use Rattle.bv_space.specs.Owned.{Owned}
-use Rattle.bv_store.specs.Stored.{Grows, HasBlob, blocks_on}
+use Rattle.bv_store.specs.Stored.{Grows, blocks_on}
+use Rattle.bv_writer.specs.Blocks.{IsBlobOf}
 use Rattle.bv_volume.specs.Seen.{Seen}
 use Rattle.bv_volume.specs.declared.tokens.Admitted.{Admitted}
 use Rattle.bv_volume.specs.declared.tokens.Begun.{Begun}
@@ -64,12 +65,12 @@ Writes old new a bytes = IfSome (find old.space.adds a.root) (λ v.
     Grows old.store.told new.store.told (λ d more. more
     ≡ device.Write (block_at old.store.geometry (slice_index v.items a.put)) bytes true ∷ []))
 
--- all blocks of the add were put and, where the device tells, they have the blob
+-- all blocks of the add were put and, where the device tells, they are the blocks, tree and data in
+-- their order, of bytes with its root and size
 pub record IsPut (v : Seen) (a : Admitted) : Type 0 where
   pub all : a.put ≡ need_of v.history.version a.size
   pub there : IfSome v.store.told (λ d. IfSome (find v.space.adds a.root) (λ x.
-      HasBlob a.root (record { size = a.size; version = v.history.version })
-      (blocks_on v.store.geometry d x.items)))
+      IsBlobOf v.history.version a.root a.size (blocks_on v.store.geometry d x.items)))
 
 -- a claim was gathered: its blocks are the add's, so many, and the nodes that they take, of so many
 -- that are free, are set aside
