@@ -22,7 +22,7 @@ use Rattle.bv_journal.specs.Rests.{AtRest}
 use Rattle.bv_mount.specs.declared.inspected.Inspected.{Inspected}
 use Rattle.bv_mount.specs.Inspects.{inspection, IsInspected}
 use Rattle.bv_mount.specs.Recovers.{plan_for, next_for, KeepsVolume}
-use Rattle.bv_mount.proofs.RunLemmas.{run_keeps}
+use Rattle.bv_mount.proofs.RunLemmas.{recovery_keeps, run_keeps}
 use Rattle.bv_ring.specs.Cursor.{Cursor, cursor_at, StandsBehind}
 use Rattle.bv_journaled.specs.Kept.{map_at, KeepsMap}
 use Rattle.bv_journaled.specs.Since.{began_at, since}
@@ -127,4 +127,5 @@ pub told_keeps : (i : Inspected) (r : Result ℕ MountFault) (old new : Option D
     → IfSome old (λ d. IsSettled d.trace → IsInspected (now_of d) i) → Follows r (plan_for (inspection i)) old new → IfSome old (λ d. IsSettled d.trace → KeepsVolume d new)
 told_keeps i r None new count long total gives follows = tt
 told_keeps i r (Some d) new count long total gives follows =
-    λ settled. run_keeps i d (gives settled) (omega (arith, long, total, length-now_after d.base d.trace)) r new follows
+    λ settled. run_keeps d (plan_for (inspection i))
+    (recovery_keeps i (now_of d) (gives settled) (omega (arith, long, total, length-now_after d.base d.trace))) r new follows
