@@ -43,6 +43,7 @@ run)
     sleep 1
     echo "rt: chose --jobs 1 for bv_main"
     echo "fn bv_main::second: proved by auto"
+    echo "axioms os: os::c::strerror"
     mkdir -p out && cp "$PROGRAM" out/bv_main
     ;;
 esac
