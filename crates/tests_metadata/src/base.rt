@@ -147,16 +147,6 @@ pub fn rest_of(lost: Lost) -> &'static [SurveyFault] {
     }
 }
 
-/// The counts of the volume.
-pub fn geometry(version: u32) -> Geometry {
-    Geometry {
-        blocks: 64,
-        nodes: 128,
-        journal: 16,
-        version,
-    }
-}
-
 /// Puts bytes over those of a block, as far as it goes.
 fn put(block: &mut Block, at: usize, bytes: &[u8]) {
     for (place, byte) in block.iter_mut().skip(at).zip(bytes) {
@@ -179,12 +169,17 @@ fn blocks_of(version: u32) -> [Block; 3] {
     blocks
 }
 
-/// These blocks as the metadata of the volume.
+/// These blocks as the metadata of a volume of 64 data blocks, 128 nodes and 16 journal blocks.
 fn metadata(version: u32, blocks: Vec<Block>) -> Result<Meta, Fail> {
-    if version != 1 && version != 2 {
-        return Err(Fail::from("a version"));
+    if version < 1 || 2 < version {
+        return Err(Fail::from("the version"));
     }
-    let geometry = geometry(version);
+    let geometry = Geometry {
+        blocks: 64,
+        nodes: 128,
+        journal: 16,
+        version,
+    };
     match check_counts(&geometry) {
         Ok(()) if blocks.len() as u64 == geometry.meta() => Ok(Meta::new(geometry, blocks)),
         _ => Err(Fail::from("the counts")),

@@ -9,6 +9,4 @@ mod bytes_of_nodes;
 #[cfg(test)]
 mod extents;
 #[cfg(test)]
-mod many;
-#[cfg(test)]
 mod surveys;
