@@ -11,7 +11,7 @@ use Rattle.spec_disk.proofs.EventLemmas.{candidates-push_write, candidates-push_
 use Rattle.spec_disk.proofs.ImageLemmas.{image-same_candidates}
 use Rattle.bv_device.specs.Told.{Disk, disk_with, with_event}
 use Rattle.bv_device.specs.Plan.{IsPlan, failed_event, with_events, CutShort, Follows}
-use Rattle.bv_device.specs.Crash.{Leaves, Crash, Ran, LeftByPlan}
+use Rattle.bv_device.specs.Crash.{EachStop, Crash, Ran, LeftByPlan}
 use Rattle.bv_device.proofs.PlanLemmas.{disk_with-nil, disk_with-append, with_events-some, IsPlan-tail}
 
 -- a property that doesn't get harder with time
@@ -20,13 +20,13 @@ Lasts P = (k : ℕ) (j : List (List ℕ)) → P k j → P (k + 1) j
 
 -- Runs, event by event
 
-pub Crash-none : (d : Disk) (P : ℕ → List (List ℕ) → Type 0) → Leaves d (P 0) → Crash d [] P
+pub Crash-none : (d : Disk) (P : ℕ → List (List ℕ) → Type 0) → EachStop d (P 0) → Crash d [] P
 Crash-none d P h k le =
     let z : k ≡ 0 = omega arith in
-    subst (λ (n : ℕ). Leaves (disk_with d (take n [])) (P n)) (sym z) (subst (λ (e : Disk). Leaves e (P 0)) (sym (disk_with-nil d)) h)
+    subst (λ (n : ℕ). EachStop (disk_with d (take n [])) (P n)) (sym z) (subst (λ (e : Disk). EachStop e (P 0)) (sym (disk_with-nil d)) h)
 
 pub Crash-more : (d : Disk) (p : List Event) (e : Event) (P : ℕ → List (List ℕ) → Type 0) → Crash d p P
-    → Leaves (disk_with d (p ++ e ∷ [])) (P (length p + 1)) → Crash d (p ++ e ∷ []) P
+    → EachStop (disk_with d (p ++ e ∷ [])) (P (length p + 1)) → Crash d (p ++ e ∷ []) P
 Crash-more d p e P c h k le j i =
     elim (cases_lt (length p) k) [
       | inl lt ↦
@@ -59,7 +59,7 @@ Crash-front d p q P c k le j i =
     c k (omega (arith, length-append p q, le)) j (subst (λ (t : List Event). IsImage d.base (d.trace ++ t) j) (sym (take-append-le k p q le)) i)
 
 -- the stop after a first part
-pub Crash-at : (d : Disk) (p q : List Event) (P : ℕ → List (List ℕ) → Type 0) → Crash d (p ++ q) P → Leaves (disk_with d p) (P (length p))
+pub Crash-at : (d : Disk) (p q : List Event) (P : ℕ → List (List ℕ) → Type 0) → Crash d (p ++ q) P → EachStop (disk_with d p) (P (length p))
 Crash-at d p q P c j i =
     c (length p) (omega (arith, length-append p q)) j (subst (λ (t : List Event). IsImage d.base (d.trace ++ t) j) (sym (take-append_seam p q)) i)
 
@@ -76,18 +76,18 @@ pub image-failed_sync : (base : List (List ℕ)) (p : List Event) (j : List (Lis
 image-failed_sync base p j i = image-same_candidates base (p ++ Sync false ∷ []) p j (λ b s. candidates-push_failed_sync base p b s) i
 
 -- the call that fails after a first part
-Leaves-failed : (d : Disk) (before : List Event) (e : Event) (plan : List Event) (P : ℕ → List (List ℕ) → Type 0) → Lasts P → IsPlan (e ∷ plan)
-    → Crash d (before ++ e ∷ plan) P → Leaves (disk_with d (before ++ failed_event e ∷ [])) (P (length before + 1))
-Leaves-failed d before (Write at bytes true) plan P lasts planned c j i =
+EachStop-failed : (d : Disk) (before : List Event) (e : Event) (plan : List Event) (P : ℕ → List (List ℕ) → Type 0) → Lasts P → IsPlan (e ∷ plan)
+    → Crash d (before ++ e ∷ plan) P → EachStop (disk_with d (before ++ failed_event e ∷ [])) (P (length before + 1))
+EachStop-failed d before (Write at bytes true) plan P lasts planned c j i =
     let image : IsImage d.base (d.trace ++ (before ++ Write at bytes true ∷ [])) j =
     subst (λ (t : List Event). IsImage d.base t j) (append_assoc d.trace before (Write at bytes true ∷ [])) (image-failed_write d.base (d.trace ++ before) at bytes j (subst (λ (t : List Event). IsImage d.base t j) (sym (append_assoc d.trace before (Write at bytes false ∷ []))) i)) in
     let whole : (before ++ Write at bytes true ∷ []) ++ plan ≡ before ++ Write at bytes true ∷ plan = append_assoc before (Write at bytes true ∷ []) plan in
     subst (λ (n : ℕ). P n j) (length_push before (Write at bytes true)) (Crash-at d (before ++ Write at bytes true ∷ []) plan P (subst (λ (t : List Event). Crash d t P) (sym whole) c) j image)
-Leaves-failed d before (Write at bytes false) plan P lasts planned c j i = absurd planned
-Leaves-failed d before (Sync true) plan P lasts planned c j i =
+EachStop-failed d before (Write at bytes false) plan P lasts planned c j i = absurd planned
+EachStop-failed d before (Sync true) plan P lasts planned c j i =
     let image : IsImage d.base (d.trace ++ before) j = image-failed_sync d.base (d.trace ++ before) j (subst (λ (t : List Event). IsImage d.base t j) (sym (append_assoc d.trace before (Sync false ∷ []))) i) in
     lasts (length before) j (Crash-at d before (Sync true ∷ plan) P c j image)
-Leaves-failed d before (Sync false) plan P lasts planned c j i = absurd planned
+EachStop-failed d before (Sync false) plan P lasts planned c j i = absurd planned
 
 Ran-cut_from : (d : Disk) (before plan : List Event) (new : Option Disk) (P : ℕ → List (List ℕ) → Type 0) → Lasts P → IsPlan plan
     → Crash d (before ++ plan) P → CutShort plan (Some (disk_with d before)) new → Ran d new P
@@ -100,7 +100,7 @@ Ran-cut_from d before (e ∷ plan) new P lasts planned c cut =
         | inl f ↦ record {
           events = before ++ failed_event e ∷ [];
           is = f ∙ some_is (failed_event e);
-          crash = Crash-more d before (failed_event e) P (Crash-front d before (e ∷ plan) P c) (Leaves-failed d before e plan P lasts planned c);
+          crash = Crash-more d before (failed_event e) P (Crash-front d before (e ∷ plan) P c) (EachStop-failed d before e plan P lasts planned c);
         }
         | inr on ↦ Ran-cut_from d (before ++ e ∷ []) plan new P lasts (IsPlan-tail e plan planned)
             (subst (λ (t : List Event). Crash d t P) (sym (append_assoc before (e ∷ []) plan)) c)
@@ -126,15 +126,15 @@ Ran-left_by_plan r d plan new planned f =
 
 -- whatever a stop leaves before the plan has P n, after its first event P (n + 1), and so on
 abbrev pub Walks : Disk → List Event → (ℕ → Blocks → Type 0) → ℕ → Type 0
-Walks d [] P n = Leaves d (P n)
-Walks d (e ∷ plan) P n = Leaves d (P n) × Walks (disk_with d (e ∷ [])) plan P (n + 1)
+Walks d [] P n = EachStop d (P n)
+Walks d (e ∷ plan) P n = EachStop d (P n) × Walks (disk_with d (e ∷ [])) plan P (n + 1)
 
 -- each event of the plan keeps S
 abbrev pub EachKeeps : (Disk → Type 0) → List Event → Type 0
 EachKeeps S [] = Unit {0}
 EachKeeps S (e ∷ plan) = ((d : Disk) → S d → S (disk_with d (e ∷ []))) × EachKeeps S plan
 
-pub Walks-each : (d : Disk) (plan : List Event) (P : ℕ → List (List ℕ) → Type 0) (n k : ℕ) → Walks d plan P n → k ≤ length plan → Leaves (disk_with d (take k plan)) (P (n + k))
+pub Walks-each : (d : Disk) (plan : List Event) (P : ℕ → List (List ℕ) → Type 0) (n k : ℕ) → Walks d plan P n → k ≤ length plan → EachStop (disk_with d (take k plan)) (P (n + k))
 Walks-each d [] P n zero w le j i = let e : n ≡ n + 0 = omega arith in subst (λ (x : ℕ). P x j) e (w j (subst (λ (x : Disk). IsImage x.base x.trace j) (disk_with-nil d) i))
 Walks-each d [] P n (suc k) w le j i = absurd (omega (arith, le))
 Walks-each d (e ∷ plan) P n zero w le j i = let e : n ≡ n + 0 = omega arith in subst (λ (x : ℕ). P x j) e (w.0 j (subst (λ (x : Disk). IsImage x.base x.trace j) (disk_with-nil d) i))
@@ -143,7 +143,7 @@ Walks-each d (e ∷ plan) P n (suc k) w le j i =
     subst (λ (x : ℕ). P x j) time (Walks-each (disk_with d (e ∷ [])) plan P (n + 1) k (w.1) (omega (arith, le)) j (subst (λ (t : List Event). IsImage d.base t j) (sym (append_assoc d.trace (e ∷ []) (take k plan))) i))
 
 pub Crash-walk : (d : Disk) (plan : List Event) (P : ℕ → List (List ℕ) → Type 0) → Walks d plan P 0 → Crash d plan P
-Crash-walk d plan P w k le = subst (λ (n : ℕ). Leaves (disk_with d (take k plan)) (P n)) (omega arith) (Walks-each d plan P 0 k w le)
+Crash-walk d plan P w k le = subst (λ (n : ℕ). EachStop (disk_with d (take k plan)) (P n)) (omega arith) (Walks-each d plan P 0 k w le)
 
 pub Walks-append : (d : Disk) (p q : List Event) (P : ℕ → List (List ℕ) → Type 0) (n : ℕ) → Walks d p P n → Walks (disk_with d p) q P (n + length p) → Walks d (p ++ q) P n
 Walks-append d [] q P n v w =
@@ -159,7 +159,7 @@ Walks-at d [] P n m w = w
 Walks-at d (e ∷ plan) P n m w = (w.0, Walks-at (disk_with d (e ∷ [])) plan P (n + 1) (m + 1) (w.1))
 
 -- a state that each event keeps
-pub Walks-kept : (S : Disk → Type 0) (P : List (List ℕ) → Type 0) (d : Disk) (plan : List Event) (n : ℕ) → ((x : Disk) → S x → Leaves x P) → EachKeeps S plan → S d → Walks d plan (λ _. P) n
+pub Walks-kept : (S : Disk → Type 0) (P : List (List ℕ) → Type 0) (d : Disk) (plan : List Event) (n : ℕ) → ((x : Disk) → S x → EachStop x P) → EachKeeps S plan → S d → Walks d plan (λ _. P) n
 Walks-kept S P d [] n leaves keeps s = leaves d s
 Walks-kept S P d (e ∷ plan) n leaves keeps s = (leaves d s, Walks-kept S P (disk_with d (e ∷ [])) plan (n + 1) leaves (keeps.1) (keeps.0 d s))
 
@@ -169,11 +169,11 @@ EachKeeps-end S d (e ∷ plan) keeps s = subst S (disk_with-append d (e ∷ []) 
 
 -- Runs, one after another
 
-pub Ran-none : (d : Disk) (told : Option Disk) (P : ℕ → List (List ℕ) → Type 0) → told ≡ Some d → Leaves d (P 0) → Ran d told P
+pub Ran-none : (d : Disk) (told : Option Disk) (P : ℕ → List (List ℕ) → Type 0) → told ≡ Some d → EachStop d (P 0) → Ran d told P
 Ran-none d told P is h = record { events = []; is = is ∙ ap (λ (e : Disk). Some e) (sym (disk_with-nil d)); crash = Crash-none d P h }
 
 pub Ran-more : (d : Disk) (old new : Option Disk) (e : Event) (P : ℕ → List (List ℕ) → Type 0) → (r : Ran d old P) → new ≡ with_event old e
-    → Leaves (disk_with d (r.events ++ e ∷ [])) (P (length r.events + 1)) → Ran d new P
+    → EachStop (disk_with d (r.events ++ e ∷ [])) (P (length r.events + 1)) → Ran d new P
 Ran-more d old new e P r is h = record {
   events = r.events ++ e ∷ [];
   is = is ∙ ap (λ (o : Option Disk). with_event o e) r.is ∙ ap (λ (x : Disk). Some x) (disk_with-append d r.events (e ∷ []));

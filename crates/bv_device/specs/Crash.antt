@@ -6,12 +6,12 @@ use Rattle.spec_disk.specs.Disk.{Blocks}
 use Rattle.bv_device.specs.Told.{Disk, MayLeave, disk_with}
 
 -- whatever a stop leaves now has P
-abbrev pub Leaves : Disk → (Blocks → Type 0) → Type 0
-Leaves d P = (j : Blocks) → MayLeave d j → P j
+abbrev pub EachStop : Disk → (Blocks → Type 0) → Type 0
+EachStop d P = (j : Blocks) → MayLeave d j → P j
 
 -- whatever a stop leaves after k of these events has P k
 abbrev pub Crash : Disk → List Event → (ℕ → Blocks → Type 0) → Type 0
-Crash d events P = (k : ℕ) → k ≤ length events → Leaves (disk_with d (take k events)) (P k)
+Crash d events P = (k : ℕ) → k ≤ length events → EachStop (disk_with d (take k events)) (P k)
 
 -- the device tells that since d some events came, and each stop of them left P
 pub record Ran (d : Disk) (told : Option Disk) (P : ℕ → Blocks → Type 0) : Type 0 where

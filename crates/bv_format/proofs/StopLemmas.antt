@@ -18,7 +18,7 @@ use Rattle.spec_crash.specs.Format.{head, HasOldHead, HasNoHead, IsEmptyVolume, 
 use Rattle.spec_crash.proofs.FormatLemmas.{head-refused}
 use Rattle.bv_device.specs.Told.{Disk, disk_with}
 use Rattle.bv_device.specs.Plan.{writes, a_sync}
-use Rattle.bv_device.specs.Crash.{Leaves}
+use Rattle.bv_device.specs.Crash.{EachStop}
 use Rattle.bv_device.proofs.CrashLemmas.{Walks, EachKeeps, Crash-walk, Walks-append, Walks-kept, EachKeeps-end}
 use Rattle.bv_format.specs.Plan.{behind_plan, super_plan, format_plan}
 use Rattle.spec_image.proofs.EmptyLemmas.{BeginsEmpty-is}
@@ -53,8 +53,8 @@ pub record ZeroHead (x : Disk) : Type 0 where
   pub synced : block (synced_after x.base x.trace) 0 ≡ zero_block
   pub now : block (now_after x.base x.trace) 0 ≡ zero_block
 
-Leaves-zero_head : (x : Disk) → ZeroHead x → Leaves x HasNoHead
-Leaves-zero_head x s j i = HasNoHead-block j (image-quiet x.base x.trace j 0 i s.quiet ∙ s.synced)
+EachStop-zero_head : (x : Disk) → ZeroHead x → EachStop x HasNoHead
+EachStop-zero_head x s j i = HasNoHead-block j (image-quiet x.base x.trace j 0 i s.quiet ∙ s.synced)
 
 elsewhere : (at : ℕ) (bytes : List ℕ) (b : ℕ) → at ≢ b → written_to b (Write at bytes true ∷ []) ≡ []
 elsewhere at bytes b other = elim (eqb_tells at b) [
@@ -93,11 +93,11 @@ from now events = record { base = now; trace = events }
 abbrev cleared : List Event
 cleared = Write 0 zero_block true ∷ Sync true ∷ []
 
-Leaves-old : (now : Blocks) (g : Geometry) → Leaves (from now []) (At now g 0)
-Leaves-old now g j i = inl (ap (λ (d : Blocks). head d) (image-settled now [] j (λ b. refl) i), omega arith)
+EachStop-old : (now : Blocks) (g : Geometry) → EachStop (from now []) (At now g 0)
+EachStop-old now g j i = inl (ap (λ (d : Blocks). head d) (image-settled now [] j (λ b. refl) i), omega arith)
 
-Leaves-clearing : (now : Blocks) (g : Geometry) → Leaves (from now (Write 0 zero_block true ∷ [])) (At now g 1)
-Leaves-clearing now g j i =
+EachStop-clearing : (now : Blocks) (g : Geometry) → EachStop (from now (Write 0 zero_block true ∷ [])) (At now g 1)
+EachStop-clearing now g j i =
     elim (Contains-cons_cases (head now) (sector zero_block 0 ∷ []) (head j) (i.each_sector 0 0)) [
       | inl old ↦ inl (sym old, omega arith)
       | inr new ↦ inr (inl (HasNoHead-zeros j (sym (Contains-one (sector zero_block 0) (head j) new) ∙ zero_head)))
@@ -122,9 +122,9 @@ abbrev written : Geometry → List Event → List Event
 written g trace = trace ++ Write 0 (super_bytes (empty_super g)) true ∷ []
 
 -- with the superblock pending: it is there or it isn't
-Leaves-pending : (now : Blocks) (g : Geometry) (x : Disk) → IsGeometry g → total_blocks g ≤ length now → Behind now g x
-    → Leaves (disk_with x (Write 0 (super_bytes (empty_super g)) true ∷ [])) (λ j. HasNoHead j ⊎ IsEmptyVolume g j)
-Leaves-pending now g x lawful room s j i =
+EachStop-pending : (now : Blocks) (g : Geometry) (x : Disk) → IsGeometry g → total_blocks g ≤ length now → Behind now g x
+    → EachStop (disk_with x (Write 0 (super_bytes (empty_super g)) true ∷ [])) (λ j. HasNoHead j ⊎ IsEmptyVolume g j)
+EachStop-pending now g x lawful room s j i =
     let sup : List ℕ = super_bytes (empty_super g) in
     let once : pending (written g x.trace) 0 ≡ sup ∷ [] = pending-push x.trace (Write 0 sup true) 0 refl ∙ ap (λ (ws : List (List ℕ)). ws ++ (sup ∷ [])) s.head.quiet in
     let synced : synced_after x.base (written g x.trace) ≡ synced_after x.base x.trace = synced_after-push x.base x.trace (Write 0 sup true) refl in
@@ -144,9 +144,9 @@ Leaves-pending now g x lawful room s j i =
     ]
 
 -- once it is synced
-Leaves-made : (now : Blocks) (g : Geometry) (x : Disk) → IsGeometry g → total_blocks g ≤ length now → Behind now g x
-    → Leaves (disk_with (disk_with x (Write 0 (super_bytes (empty_super g)) true ∷ [])) a_sync) (λ j. HasNoHead j ⊎ IsEmptyVolume g j)
-Leaves-made now g x lawful room s j i =
+EachStop-made : (now : Blocks) (g : Geometry) (x : Disk) → IsGeometry g → total_blocks g ≤ length now → Behind now g x
+    → EachStop (disk_with (disk_with x (Write 0 (super_bytes (empty_super g)) true ∷ [])) a_sync) (λ j. HasNoHead j ⊎ IsEmptyVolume g j)
+EachStop-made now g x lawful room s j i =
     let sup : List ℕ = super_bytes (empty_super g) in
     let made : now_after x.base (written g x.trace) ≡ all_made g now =
     now_after-append x.base x.trace (Write 0 sup true ∷ []) ∙ ap (λ (d : Blocks). set d 0 sup) s.is in
@@ -174,8 +174,8 @@ Behind-written now g s =
 
 Walks-super : (now : Blocks) (g : Geometry) (x : Disk) (n : ℕ) → IsGeometry g → total_blocks g ≤ length now → Behind now g x → Walks x (super_plan g) (At now g) n
 Walks-super now g x n lawful room s = (
-  λ j i. inr (inl (Leaves-zero_head x s.head j i)),
-  (λ j i. inr (Leaves-pending now g x lawful room s j i), λ j i. inr (Leaves-made now g x lawful room s j i)),
+  λ j i. inr (inl (EachStop-zero_head x s.head j i)),
+  (λ j i. inr (EachStop-pending now g x lawful room s j i), λ j i. inr (EachStop-made now g x lawful room s j i)),
 )
 
 Walks-format : (now : Blocks) (g : Geometry) → IsGeometry g → total_blocks g ≤ length now → Walks (from now []) (format_plan g) (At now g) 0
@@ -183,10 +183,10 @@ Walks-format now g lawful room =
     let start : ZeroHead (from now cleared) = ZeroHead-cleared now (omega (arith, room)) in
     let keeps : EachKeeps ZeroHead (behind_plan g) = EachKeeps-behind 1 (empty_behind g) (omega arith) in
     let end : ZeroHead (disk_with (from now cleared) (behind_plan g)) = EachKeeps-end ZeroHead (from now cleared) (behind_plan g) keeps start in
-    let kept : Walks (from now cleared) (behind_plan g) (λ _. HasNoHead) 2 = Walks-kept ZeroHead HasNoHead (from now cleared) (behind_plan g) 2 Leaves-zero_head keeps start in
+    let kept : Walks (from now cleared) (behind_plan g) (λ _. HasNoHead) 2 = Walks-kept ZeroHead HasNoHead (from now cleared) (behind_plan g) 2 EachStop-zero_head keeps start in
     let behind : Walks (from now cleared) (behind_plan g) (At now g) 2 = Walks-weaker (λ _. HasNoHead) (At now g) (from now cleared) (behind_plan g) 2 (λ k j h. inr (inl h)) kept in
     let last = Walks-super now g (disk_with (from now cleared) (behind_plan g)) (2 + length (behind_plan g)) lawful room (Behind-written now g end) in
-    (Leaves-old now g, (Leaves-clearing now g, Walks-append (from now cleared) (behind_plan g) (super_plan g) (At now g) 2 behind last))
+    (EachStop-old now g, (EachStop-clearing now g, Walks-append (from now cleared) (behind_plan g) (super_plan g) (At now g) 2 behind last))
 
 -- FormatStop of the plan
 pub FormatStop-plan : (base : Blocks) (before : List Event) (g : Geometry) → IsGeometry g → total_blocks g ≤ length base → FormatStop base before (format_plan g) g

@@ -26,6 +26,7 @@ use Rattle.spec_core.specs.History.{History, setting_of, opening_map, first_stat
 use Rattle.spec_core.specs.Log.{changed, purges, purge_of, without, queued, failed}
 use Rattle.spec_core.specs.Order.{place_cmp}
 use Rattle.bv_model.specs.Rescan.{state_at}
+use Rattle.bv_model.specs.Sole.{Sole, entries_at}
 use Rattle.spec_core.specs.Room.{room_in}
 use Rattle.spec_core.specs.State.{State, find, among, held, holders, is_held, is_unlinked, present}
 use Rattle.spec_core.specs.Step.{Chosen, after, state_after, Steps}
@@ -43,13 +44,6 @@ use Rattle.spec_core.specs.declared.setting.Setting.{Setting}
 use Rattle.spec_core.specs.declared.who.Who.{Who}
 
 -- ---- entries at a root
-
-abbrev pub entries_at : {X : Type 0} → Digest → List (Digest × X) → ℕ
-entries_at r es = count_by (λ e. is_at (digest_cmp r) e.0) es
-
--- each root is there at most once
-abbrev pub Sole : {X : Type 0} → List (Digest × X) → Type 0
-Sole es = (r : Digest) → entries_at r es ≤ 1
 
 one_more : (b : Bool) (n : ℕ) → n ≤ 1 → (b ≡ true → n ≡ 0) → cond b 1 0 + n ≤ 1
 one_more true n h f = omega (arith, f refl)

@@ -3,4 +3,5 @@ pub mod Kept
 pub mod Laws
 pub mod Noted
 pub mod Rescan
+pub mod Sole
 pub mod Taking

@@ -32,7 +32,8 @@ use Rattle.spec_meta.proofs.Frame.{wants_ok, chain_read}
 use Rattle.spec_meta.proofs.MapLemmas.{none_named}
 use Rattle.spec_meta.proofs.PurgeLemmas.{read_at}
 use Rattle.bv_ledger.proofs.Sums.{sum_more}
-use Rattle.bv_model.proofs.Adds.{Sole, sole-insert}
+use Rattle.bv_model.specs.Sole.{Sole}
+use Rattle.bv_model.proofs.Adds.{sole-insert}
 use Rattle.bv_journaled.specs.Standing.{placed_of}
 use Rattle.bv_journaled.proofs.PlacedLemmas.{places, placed_has}
 use Rattle.bv_volume.specs.Spaced.{LiesAt, LieAll}

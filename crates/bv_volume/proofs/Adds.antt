@@ -26,7 +26,8 @@ use Rattle.bv_claims.specs.Blocks.{times, HasEachOnce, HaveSameBlocks, IsPartOf}
 use Rattle.bv_claims.specs.declared.grant.Grant.{Grant}
 use Rattle.bv_claims.proofs.Counts.{times-append}
 use Rattle.bv_model.specs.Noted.{Noted}
-use Rattle.bv_model.proofs.Adds.{Sole, find-without, sole-insert, sole-without}
+use Rattle.bv_model.specs.Sole.{Sole}
+use Rattle.bv_model.proofs.Adds.{find-without, sole-insert, sole-without}
 use Rattle.bv_space.specs.Owned.{Owned, times_in}
 use Rattle.bv_ledger.specs.Answers.{begin_reply, refusal_reply}
 use Rattle.bv_ledger.specs.declared.faults.Refusal.{Refusal}

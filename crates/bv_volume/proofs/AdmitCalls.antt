@@ -17,7 +17,7 @@ use Rattle.spec_core.specs.declared.who.Who.{Who}
 use Rattle.bv_claims.specs.Blocks.{times, HasEachOnce, HaveSameBlocks, Rises}
 use Rattle.bv_claims.specs.Tokens.{block_count}
 use Rattle.bv_claims.proofs.Counts.{times-append}
-use Rattle.bv_model.proofs.Adds.{Sole}
+use Rattle.bv_model.specs.Sole.{Sole}
 use Rattle.bv_space.specs.Owned.{Owned}
 use Rattle.bv_space.proofs.Entries.{put_back}
 use Rattle.bv_space.proofs.Freeing.{freed_again}

@@ -24,7 +24,8 @@ use Rattle.spec_rest.specs.Rest.{Map}
 use Rattle.bv_claims.specs.Blocks.{times, HasEachOnce, HaveSameBlocks, Rises}
 use Rattle.bv_claims.specs.Tokens.{block_count}
 use Rattle.bv_claims.proofs.Counts.{times-append}
-use Rattle.bv_model.proofs.Adds.{Sole, find-without, sole-without, sorted_sole}
+use Rattle.bv_model.specs.Sole.{Sole}
+use Rattle.bv_model.proofs.Adds.{find-without, sole-without, sorted_sole}
 use Rattle.bv_node.specs.Runs.{extends, runs, runs_from}
 use Rattle.bv_space.specs.Owned.{Owned, times_in}
 use Rattle.bv_space.proofs.Entries.{put_back}

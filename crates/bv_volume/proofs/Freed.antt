@@ -20,7 +20,8 @@ use Rattle.spec_core.proofs.Once.{times as times_root, once_last, at_most_one, s
 use Rattle.spec_rest.specs.Rest.{Map}
 use Rattle.bv_claims.specs.Blocks.{times, IsPartOf}
 use Rattle.bv_claims.proofs.Counts.{times-append, times_same}
-use Rattle.bv_model.proofs.Adds.{Sole, Tabled, tabled_at}
+use Rattle.bv_model.specs.Sole.{Sole}
+use Rattle.bv_model.proofs.Adds.{Tabled, tabled_at}
 use Rattle.bv_model.proofs.Rescans.{state_at_end}
 use Rattle.bv_model.proofs.Takings.{purged-need}
 use Rattle.bv_model.specs.Noted.{Noted}

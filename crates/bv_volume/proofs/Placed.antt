@@ -22,7 +22,8 @@ use Rattle.spec_core.specs.declared.map_change.MapChange.{MapChange}
 use Rattle.spec_rest.specs.Rest.{Map}
 use Rattle.bv_claims.specs.Blocks.{times}
 use Rattle.bv_claims.proofs.Counts.{times-append}
-use Rattle.bv_model.proofs.Adds.{Sole, sole-without, sole-insert, find-without}
+use Rattle.bv_model.specs.Sole.{Sole}
+use Rattle.bv_model.proofs.Adds.{sole-without, sole-insert, find-without}
 use Rattle.bv_model.proofs.Flush.{changed_by_one}
 use Rattle.bv_ledger.proofs.Sums.{needs, needs_purged}
 use Rattle.bv_store.specs.Stored.{placed_without}

@@ -24,7 +24,8 @@ use Rattle.spec_core.specs.declared.who.Who.{Who}
 use Rattle.spec_rest.specs.Rest.{Map}
 use Rattle.bv_claims.specs.Blocks.{times}
 use Rattle.bv_claims.proofs.Counts.{times-append}
-use Rattle.bv_model.proofs.Adds.{Sole, sole-insert, sole-without, sole-purges, find-purged_none}
+use Rattle.bv_model.specs.Sole.{Sole}
+use Rattle.bv_model.proofs.Adds.{sole-insert, sole-without, sole-purges, find-purged_none}
 use Rattle.bv_model.proofs.Takings.{purged-need}
 use Rattle.bv_space.specs.Owned.{Owned, times_in}
 use Rattle.bv_ledger.specs.Answers.{device_reply}

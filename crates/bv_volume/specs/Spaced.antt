@@ -16,7 +16,7 @@ use Rattle.spec_core.specs.declared.setting.Setting.{Setting}
 use Rattle.spec_rest.specs.Rest.{Map}
 use Rattle.bv_claims.specs.Blocks.{times, HasEachOnce, HaveSameBlocks, Rises}
 use Rattle.bv_claims.specs.Tokens.{block_count}
-use Rattle.bv_model.proofs.Adds.{Sole}
+use Rattle.bv_model.specs.Sole.{Sole}
 use Rattle.bv_space.specs.Owned.{Owned, times_in}
 use Rattle.bv_ledger.specs.Tables.{Tables}
 use Rattle.bv_store.specs.Stored.{Stored}
