@@ -2,6 +2,7 @@
 
 ghost use Rattle.std.specs.Prelude.{◌≡◌, ◌<◌, ◌-◌, ◌^◌, length, IfSome, OnOk, IsTrue};
 ghost use Rattle.spec_disk.specs.Disk.{block, reads_right};
+ghost use Rattle.spec_disk.specs.Laws.{AreWhole};
 ghost use Rattle.spec_faults.specs.Faults.{CountsFaults};
 ghost use Rattle.bv_device.specs.Told.{now_of};
 ghost use Rattle.bv_device.specs.Plan.{a_write, a_sync};
@@ -20,9 +21,10 @@ pub trait Device {
     /// What a contract sees of it.
     ghost seen: { Self → Seen };
 
-    /// The number of blocks.
+    /// The number of blocks. What is told has none that is shorter or longer than a block.
     fn blocks(&self) -> u64
-        ensures { result ≡ (seen self.now).block_count };
+        ensures count { result ≡ (seen self.now).block_count }
+        ensures whole { IfSome (seen self.now).told (λ d. AreWhole (now_of d)) };
 
     /// The number of writes and syncs so far. One that failed may have left an event, and counts
     /// then, or none.

@@ -3,6 +3,7 @@
 ghost use Rattle.std.specs.Prelude.{◌≡◌, ◌<◌, ◌-◌, ◌^◌, [], length, true, false, OnOk};
 ghost use Rattle.spec_disk.specs.declared.event.Event.TheVariants.{Write, Sync};
 ghost use Rattle.spec_disk.specs.Disk.{block};
+ghost use Rattle.spec_disk.specs.Laws.{AreWhole};
 ghost use Rattle.bv_device.specs.Told.{now_of};
 ghost use Rattle.bv_device.specs.Memory.{base_of, IsLogged};
 
@@ -60,8 +61,10 @@ impl TracedDisk {
 
     /// The number of blocks.
     pub fn blocks(&self) -> u64
-        ensures { result ≡ length self.now.base }
+        ensures count { result ≡ length self.now.base }
+        ensures whole { AreWhole (now_of self.now) }
     {
+        are_whole(&self.current);
         self.current.len() as u64
     }
 
@@ -156,6 +159,11 @@ impl TracedDisk {
         Ok(())
     }
 }
+
+/// Each block has the bytes that its type has.
+fn are_whole(_blocks: &[Block])
+    ensures { AreWhole _blocks.now }
+{}
 
 /// Keeps the blocks at the opening apart from those of now.
 fn keep(opening: &mut Vec<Block>, is_kept: &mut bool, current: &[Block]) -> Result<(), AllocError>
