@@ -16,11 +16,11 @@ returns-in-Ok-clause-reads g c =
     let s = g.D.Device.seen c.args.dev.now in
     Reads-append None s s _ (λ j. length j ≡ s.block_count) (λ j. c.in_ok-block.block ≡ block j 0) _
     (Reads-nothing s (λ j. length j ≡ s.block_count) (Sees-length s (g.met.D.Device.told_blocks c.args.dev.now))) c.in_ok-block.ensures.reads
-    (λ j count is. first_read j c.in_ok-block.block c.blocks-blocks.result c.in-Ok.superblock c.in-Ok.ensures.value c.in-Ok.ensures.ok (count ∙ sym c.blocks-blocks.ensures) is)
+    (λ j count is. first_read j c.in_ok-block.block c.blocks-blocks.result c.in-Ok.superblock c.in-Ok.ensures.value c.in-Ok.ensures.ok (count ∙ sym c.blocks-blocks.ensures.count) is)
 
 pub returns-in-Err-clause-reads : goal.returns-in-Err-clause-reads
 returns-in-Err-clause-reads g c =
     let s = g.D.Device.seen c.args.dev.now in
     Reads-append None s s _ (λ j. length j ≡ s.block_count) (λ j. c.in_ok-block.block ≡ block j 0) _
     (Reads-nothing s (λ j. length j ≡ s.block_count) (Sees-length s (g.met.D.Device.told_blocks c.args.dev.now))) c.in_ok-block.ensures.reads
-    (λ j count is. super_read j c.in_ok-block.block c.blocks-blocks.result (Err c.in-Err.fault) c.in-Err.ensures.value (count ∙ sym c.blocks-blocks.ensures) is)
+    (λ j count is. super_read j c.in_ok-block.block c.blocks-blocks.result (Err c.in-Err.fault) c.in-Err.ensures.value (count ∙ sym c.blocks-blocks.ensures.count) is)
