@@ -1,2 +1,4 @@
+pub mod Adding
+pub mod Held
 pub mod Naming
 pub mod Ordered

@@ -148,28 +148,28 @@ none_of : (o : Option ℕ) → is_some o ≡ false → o ≡ None
 none_of None e = refl
 none_of (Some n) e = absurd (cc)
 
-let_go_adds : (s : State) (r : Digest) → (let_go s r).adds ≡ s.adds
+pub let_go_adds : (s : State) (r : Digest) → (let_go s r).adds ≡ s.adds
 let_go_adds s r = go (among s.leaving r && not (is_held s.slots r)) where
   go : (b : Bool) → (cond b (record s { leaving = remove_key (is_at (digest_cmp r)) s.leaving; queue = s.queue ++ r ∷ [] }) s).adds ≡ s.adds
   go true = refl
   go false = refl
 
-emptied_adds : (s : State) (p : Place) (o : Option Digest) → (emptied s p o).adds ≡ s.adds
+pub emptied_adds : (s : State) (p : Place) (o : Option Digest) → (emptied s p o).adds ≡ s.adds
 emptied_adds s p None = refl
 emptied_adds s p (Some r) = let_go_adds _ r
 
-unlinked_adds : (s : State) (r : Digest) (reply : Reply) → (unlinked s r reply).adds ≡ s.adds
+pub unlinked_adds : (s : State) (r : Digest) (reply : Reply) → (unlinked s r reply).adds ≡ s.adds
 unlinked_adds s r Unlinked = go (is_held s.slots r) where
   go : (b : Bool) → (cond b (record s { leaving = insert_key digest_cmp s.leaving r }) (record s { queue = s.queue ++ r ∷ [] })).adds ≡ s.adds
   go true = refl
   go false = refl
 unlinked_adds s r _ = refl
 
-closed_adds : (s : State) (p : Place) (reply : Reply) → (closed s p reply).adds ≡ s.adds
+pub closed_adds : (s : State) (p : Place) (reply : Reply) → (closed s p reply).adds ≡ s.adds
 closed_adds s p Closed = emptied_adds s p (held s.slots p)
 closed_adds s p _ = refl
 
-opened_adds : (s : State) (p : Place) (r : Digest) (reply : Reply) → (opened s p r reply).adds ≡ s.adds
+pub opened_adds : (s : State) (p : Place) (r : Digest) (reply : Reply) → (opened s p r reply).adds ≡ s.adds
 opened_adds s p r (Opened n) = refl
 opened_adds s p r _ = refl
 

@@ -1,3 +1,4 @@
--- Sessions that take their adds on in order.
+-- Sessions that take their adds on in order, and what their slots hold.
 pub mod Named
 pub mod Orderly
+pub mod Slots

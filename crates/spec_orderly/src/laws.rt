@@ -2,6 +2,7 @@
 
 ghost use Rattle.spec_orderly.specs.Named.{ConformingTellRoots};
 ghost use Rattle.spec_orderly.specs.Orderly.{AddsAreApart, OwnAddsAreUnderWay};
+ghost use Rattle.spec_orderly.specs.Slots.{SlotsHoldTheirOwn};
 
 /// The add that a session has under way by its own events is under way in the core, with its size.
 pub fn an_own_add_is_under_way()
@@ -16,4 +17,9 @@ pub fn adds_of_two_sessions_have_two_roots()
 /// Where each session did its lines, the history names the root of each line that has one.
 pub fn conforming_sessions_tell_the_roots()
     ensures { ConformingTellRoots }
+{}
+
+/// A root that a slot holds is in the map, and by its own events the session holds it there.
+pub fn slots_hold_what_their_sessions_opened()
+    ensures { SlotsHoldTheirOwn }
 {}
