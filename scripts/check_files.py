@@ -151,8 +151,8 @@ def check_links(folder, tree):
 
 
 def check_time(tree, program):
-    """The script adds at most 2 ms to a call: the least of many, by turns with the program, since
-    what else the machine does only adds to a time."""
+    """The script adds at most 2 ms to a call: the middle of many, by turns with the program. Where
+    other work holds the processors it is the least of them, since such work only adds to a time."""
     taken = {"program": [], "script": []}
     for _ in range(200):
         for name, path in [("program", program), ("script", tree / "blobfs")]:
@@ -163,7 +163,9 @@ def check_time(tree, program):
     for name, of in [("least", min), ("middle", statistics.median)]:
         added[name] = (of(taken["script"]) - of(taken["program"])) * 1000
         print(f"files: the script adds {added[name]:.2f} ms to a call, the {name} of 200")
-    expect("the script adds at most 2 ms", added["least"] <= 2, True)
+    is_quiet = os.getloadavg()[0] < os.cpu_count() / 2
+    which = "middle" if is_quiet else "least"
+    expect(f"the script adds at most 2 ms, the {which} of 200", added[which] <= 2, True)
 
 
 def check_signals(folder, program):
