@@ -2,8 +2,7 @@
 
 A README begins with `# NAME`, says what the crate is, and where to start. Then come those of the
 scheme's headings that have something under them, in their order; others may stand between them. It
-has under 4,000 characters, the program's own two crates under 4,300. No document names a folder of
-somebody's machine.
+has under 4,000 characters. No document names a folder of somebody's machine.
 """
 import pathlib
 import re
@@ -18,7 +17,7 @@ SCHEME = [
     "What is neither",
     "What is trusted",
 ]
-LONGEST = {"bv_serve": 4300}
+LONGEST = 4000
 FOLDER = re.compile(r"(?<![\w.:])/(?:work|home|root|opt|tmp|mnt|srv)/[\w.-]+")
 
 
@@ -33,9 +32,8 @@ def wrong_in(name, text):
     places = [SCHEME.index(heading) for heading in headings if heading in SCHEME]
     if places != sorted(set(places)):
         yield f"its headings are out of order: {', '.join(headings)}"
-    longest = LONGEST.get(name, 4000)
-    if len(text) >= longest:
-        yield f"it has {len(text):,} characters, {longest:,} or more"
+    if len(text) >= LONGEST:
+        yield f"it has {len(text):,} characters, {LONGEST:,} or more"
 
 
 found = []
