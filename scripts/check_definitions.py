@@ -10,7 +10,7 @@ import sys
 from definitions import TOP, lines_of, reached_from
 
 ROW = re.compile(r"\| `(crates/\S+\.antt)` \| ([\d,]+) \| ([\d,]+) \|")
-ALL = re.compile(r"All `spec_\*` crates together have ([\d,]+) such lines")
+ALL = re.compile(r"All `spec_\*` crates together have about ([\d,]+) such lines")
 EDGE = re.compile(r"`crates/bv_main/src/`: ([^|]*) \| ([\d,]+) \|")
 SENTENCE = re.compile(r"(\d+) files with ([\d,]+) lines\s+\(`python3 scripts/definitions.py (\S+)`\)")
 
@@ -32,7 +32,7 @@ for page, file, files, lines in said:
         wrong.append(f"{page}: {file} is {found[0]} files, {found[1]:,} lines")
 every = sum(map(lines_of, TOP.glob("crates/spec_*/specs/*.antt")))
 wrong += [f"docs/READING.md: all crates spec_* have {every:,} lines" for said_lines in ALL.findall(reading)
-          if number(said_lines) != every]
+          if abs(number(said_lines) - every) > 250]
 for files, lines in EDGE.findall(reading):
     edge = [TOP / "crates/bv_main/src" / name for name in re.findall(r"`([\w.]+)`", files)]
     found = sum(len(place.read_text(encoding="utf-8").splitlines()) for place in edge)
