@@ -1,5 +1,5 @@
 -- What a read of the device is to the store.
-use Rattle.std.proofs.Common.{◌≡◌, ℕ, ◌-◌, List, [], ◌∷◌, ◌++◌, take, drop, Bool, true, false, cond, Option, Some, None, refl, ap, sym, ◌∙◌, inl, inr}
+use Rattle.std.proofs.Common.{◌≡◌, ℕ, ◌-◌, ◌<◌, ◌≤◌, length, List, [], ◌∷◌, ◌++◌, take, drop, Bool, true, false, cond, Option, Some, None, refl, ap, sym, ◌∙◌, inl, inr, arith}
 use Rattle.std.proofs.lemmas.List.{take-append-drop}
 use Rattle.std.proofs.lemmas.Bool.Decides.{eqb_tells}
 use Rattle.std.specs.Prelude.{option_map, IfSome, IsTrue}
@@ -7,14 +7,17 @@ use Rattle.spec_disk.specs.declared.event.Event.{Event}
 use Rattle.spec_disk.specs.declared.event.Event.TheVariants.{Write}
 use Rattle.spec_disk.specs.Disk.{Blocks, block, now_after, reads_right, reads_right_from, unsynced_part}
 use Rattle.spec_disk.specs.Images.{written_to, pending, IsSettled}
-use Rattle.spec_disk.specs.Laws.{FailedLast}
-use Rattle.spec_disk.proofs.EventLemmas.{now_after-append, written_to-append}
+use Rattle.spec_disk.specs.Laws.{FailedLast, AreWhole}
+use Rattle.spec_disk.proofs.EventLemmas.{length-now_after, now_after-append, written_to-append}
 use Rattle.spec_disk.proofs.ReadLemmas.{reads_right_from-append, reads_right-only}
 use Rattle.spec_disk.proofs.SettledLemmas.{unsynced_part-append_false}
 use Rattle.spec_meta.proofs.Counting.{true_or_false}
+use Rattle.spec_record.specs.declared.geometry.Geometry.{Geometry}
+use Rattle.spec_record.specs.Geometry.{block_at, total_blocks}
 use Rattle.spec_rest.specs.Rest.{Map}
 use Rattle.bv_device.specs.Told.{Disk, now_of}
 use Rattle.bv_device.specs.Seen.{Seen}
+use Rattle.bv_store.specs.Stored.{HasWholeBlocks}
 use Rattle.bv_journaled.specs.Since.{began_at, since, calls_since}
 use Rattle.bv_journaled.specs.Standing.{Standing, stored_of, Both}
 use Rattle.bv_journaled.proofs.RowLemmas.{told_rests, rests_told}
@@ -73,3 +76,19 @@ read_both s dev told a b both =
     rests_told new a b (stored_of new).told refl (λ d e.
     let rests = told_rests s d a b (ap (option_map (since s.opened)) (sym told) ∙ e) both in
     record { info = rests.info; entries = rests.entries; more = rests.more; durable = rests.durable; keeps = rests.keeps; newest = rests.newest; stands = rests.stands; older = rests.older })
+
+-- ---- whole blocks
+
+-- the data blocks of a disk that has room for the volume, and only whole blocks
+pub data_whole : (g : Geometry) (d : Disk) → AreWhole (now_of d) → total_blocks g ≤ length d.base → HasWholeBlocks g d
+data_whole g d whole room b below =
+    whole (block_at g b) [] (omega (arith, below, room, length-now_after d.base d.trace))
+
+pub told_whole : (g : Geometry) (n : ℕ) (o : Option Disk) → total_blocks g ≤ n → IfSome o (λ d. length d.base ≡ n) → IfSome o (λ d. AreWhole (now_of d)) → IfSome o (HasWholeBlocks g)
+told_whole g n None room long whole = tt
+told_whole g n (Some d) room long whole = data_whole g d whole (omega (arith, room, long))
+
+-- since the mount began it is the same disk
+pub whole_since : (g : Geometry) (n : ℕ) (o : Option Disk) → IfSome o (HasWholeBlocks g) → IfSome (option_map (since n) o) (HasWholeBlocks g)
+whole_since g n None h = tt
+whole_since g n (Some d) h = λ b below. ap (λ (blocks : Blocks). length (block blocks (block_at g b))) (sym (since_now n d)) ∙ h b below

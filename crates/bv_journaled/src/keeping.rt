@@ -25,7 +25,7 @@ impl<D: Device> Store for JournaledStore<D> {
     ghost counted = { counts_events };
 
     fn geometry(&self) -> Geometry {
-        self.meta.geometry()
+        self.counts()
     }
 
     fn calls(&self) -> u64 {

@@ -9,6 +9,7 @@ ghost use Rattle.bv_device.specs.Told.{now_of};
 ghost use Rattle.bv_device.specs.Plan.{a_write, a_sync};
 ghost use Rattle.bv_device.specs.Seen.{Performs};
 ghost use Rattle.bv_journal.specs.Plans.{checkpoint_plan};
+ghost use Rattle.bv_store.specs.Stored.{HasWholeBlocks};
 ghost use Rattle.bv_ring.specs.Cursor.{IsCursor, StandsBehind, emptied, info_at_cursor};
 ghost use Rattle.bv_journaled.specs.Standing.{IsPrepared, IsStanding, Both, stored_of};
 ghost use Rattle.bv_journaled.specs.Kept.{KeepsMap, map_at};
@@ -22,6 +23,7 @@ use bv_bytes::Field;
 use bv_device::{Block, Device, Failed};
 use bv_ring::Ring;
 use bv_txn::{Change, Meta};
+use spec_record::Geometry;
 use std::alloc::Global;
 use std::marker::Model;
 
@@ -113,6 +115,15 @@ impl<D: Device> JournaledStore<D> {
             planned: _,
         } = self;
         dev
+    }
+
+    /// The counts of the volume. What the device tells has each data block, whole.
+    pub(crate) fn counts(&self) -> Geometry
+        ensures value { result ≡ self.now.meta.geometry }
+        ensures whole { IfSome self.now.device.told (HasWholeBlocks self.now.meta.geometry) }
+    {
+        let _count = self.dev.blocks();
+        self.meta.geometry()
     }
 
     /// Reads a data block.
