@@ -1,9 +1,8 @@
 -- The data and the tree among a blob's blocks: what a fetch finds is found among these.
 use Rattle.std.proofs.Common.{◌≡◌, ℕ, zero, suc, ◌+◌, ◌-◌, ◌<◌, ◌≤◌, ◌==◌, Bool, true, false, List, [], ◌∷◌, length, take, drop, map, refl, ap, sym, ◌∙◌, arith}
-use Rattle.std.specs.Prelude.{if◌then◌else◌, All}
+use Rattle.std.specs.Prelude.{if◌then◌else◌}
 use Rattle.std.specs.List.{range_with_len, sum_by}
 use Rattle.std.proofs.lemmas.List.{length-map, length-take, length-drop, take-map, drop-map, get_or-take}
-use Rattle.std.proofs.lemmas.List.Elements.{All-take, All-drop}
 use Rattle.spec_tree.specs.declared.Digest.{Digest}
 use Rattle.spec_tree.specs.declared.blob.Blob.{Blob}
 use Rattle.spec_tree.specs.Tree.{data_blocks, digests_at, levels_of, need_of, tree_blocks_of, windows_of}
@@ -30,21 +29,6 @@ module _ {X Y : Type 0} (f : X → Y) (version size : ℕ) (xs : List X) where
       go : (two : Bool) → map f (if two then drop k xs else take (length xs - k) xs) ≡ (if two then drop k (map f xs) else take (length (map f xs) - k) (map f xs))
       go true = sym (drop-map f k xs)
       go false = sym (take-map f (length xs - k) xs) ∙ ap (λ (n : ℕ). take (n - k) (map f xs)) (sym (length-map xs f))
-
-module _ {X : Type 0} (P : X → Type 0) (version size : ℕ) (xs : List X) (all : All P xs) where
-  pub data-has : All P (data_among version size xs)
-  data-has = go (version == 2)
-    where
-      go : (two : Bool) → All P (if two then take (data_blocks size) xs else drop (length xs - data_blocks size) xs)
-      go true = All-take P _ xs all
-      go false = All-drop P _ xs all
-
-  pub tree-has : All P (tree_among version size xs)
-  tree-has = go (version == 2)
-    where
-      go : (two : Bool) → All P (if two then drop (data_blocks size) xs else take (length xs - data_blocks size) xs)
-      go true = All-drop P _ xs all
-      go false = All-take P _ xs all
 
 pub data-within : {X : Type 0} (version size : ℕ) (xs : List X) → length xs ≡ need_of version size → data_blocks size ≤ length xs
 unfolding need_of

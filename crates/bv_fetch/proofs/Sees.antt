@@ -24,6 +24,14 @@ sees_two s P Q R so p q = go s.told p q
 pub sees_so : (s : Stored) (P R : Disk → Type 0) → ((d : Disk) → P d → R d) → SeesNow s P → SeesNow s R
 sees_so s P R so p = sees_two s P P R (λ d x y. so d x) p p
 
+-- by what is told, whatever reads give
+pub sees_given : (s : Stored) (P R : Disk → Type 0) → IfSome s.told P → SeesNow s (λ d. P d → R d) → SeesNow s R
+sees_given s P R told h = go s.told told h
+  where
+    go : (o : Option Disk) → IfSome o P → IfSome o (λ d. IfSome s.began (λ b. IsSettled b.trace) → ReadsRight d → P d → R d) → IfSome o (λ d. IfSome s.began (λ b. IsSettled b.trace) → ReadsRight d → R d)
+    go None p h = tt
+    go (Some d) p h = λ settled right. h settled right p
+
 -- by none
 pub sees_all : (s : Stored) (R : Disk → Type 0) → ((d : Disk) → R d) → SeesNow s R
 sees_all s R all = go s.told

@@ -1,7 +1,9 @@
 -- What each read gives of a window.
-use Rattle.std.proofs.Common.{◌≡◌, ℕ, ◌+◌, ◌-◌, ◌*◌, ◌<◌, min, List, [], ◌∷◌, ◌++◌, length, take, map, get_or, ap, sym, ◌∙◌, subst, arith}
+use Rattle.std.proofs.Common.{◌≡◌, ℕ, ◌+◌, ◌-◌, ◌*◌, ◌<◌, min, List, [], ◌∷◌, ◌++◌, length, take, map, get_or, Option, Some, None, ap, sym, ◌∙◌, subst, arith}
+use Rattle.std.specs.Prelude.{All, IfSome}
 use Rattle.std.specs.List.{range_with_len, sum_by}
 use Rattle.std.proofs.lemmas.List.{length-map, get_or-map}
+use Rattle.std.proofs.lemmas.List.Elements.{All-map}
 use Rattle.std.proofs.lemmas.List.FromFn.{map-range_with_len_more}
 use Rattle.spec_disk.specs.Disk.{block}
 use Rattle.spec_disk.specs.Laws.{AreWhole}
@@ -12,9 +14,9 @@ use Rattle.spec_tree.specs.Tree.{data_blocks, digests_at, need_of, windows_of}
 use Rattle.spec_window.specs.Window.{index_above, window_bytes}
 use Rattle.bv_device.specs.Told.{Disk, now_of}
 use Rattle.bv_proof.specs.declared.raw.RawWindow.{RawWindow}
-use Rattle.bv_store.specs.Stored.{blocks_on}
+use Rattle.bv_store.specs.Stored.{HasWholeBlocks, blocks_on}
 use Rattle.bv_fetch.specs.Windows.{Holds, block_among, data_among, data_window, padded_among, path_among, tree_among}
-use Rattle.bv_fetch.proofs.Amongs.{data-has, data-map, path-is, tree-has, tree-map}
+use Rattle.bv_fetch.proofs.Amongs.{data-map, path-is, tree-map}
 use Rattle.bv_fetch.proofs.Wholes.{data-more}
 
 module _ (g : Geometry) (d : Disk) (places : List ℕ) where
@@ -24,6 +26,11 @@ module _ (g : Geometry) (d : Disk) (places : List ℕ) where
   -- what stands at a place is that block
   pub block_is : (k : ℕ) → k < length places → block (now_of d) (block_at g (get_or places k 0)) ≡ get_or blocks k []
   block_is k there = sym (get_or-map (λ (b : ℕ). block (now_of d) (block_at g b)) places k 0 [] there)
+
+  -- where each data block is whole, so are those at these places
+  blocks_whole : HasWholeBlocks g d → All (λ b. b < g.blocks) places → AreWhole blocks
+  blocks_whole whole within =
+      All-map (λ (bytes : List ℕ). length bytes ≡ 8192) (λ (b : ℕ). block (now_of d) (block_at g b)) places (λ k e there. whole (get_or places k e) (within k e there))
 
   pub as_long : length blocks ≡ length places
   as_long = length-map places (λ (b : ℕ). block (now_of d) (block_at g b))
@@ -54,17 +61,19 @@ module _ (g : Geometry) (d : Disk) (places : List ℕ) where
 
   -- data and path are the window
   pub holds_of : (blob : Blob) (raw : RawWindow) (content tree : List ℕ) → length places ≡ need_of blob.version blob.size → raw.window < windows_of blob.size → content ≡ data_among blob.version blob.size places → tree ≡ tree_among blob.version blob.size places
-      → (AreWhole (blocks_on g d tree) → raw.path.items ≡ path_among blob.version blob.size (blocks_on g d tree) raw.window)
-      → (AreWhole (blocks_on g d content) → raw.bytes.items ≡ data_window blob.size raw.window (blocks_on g d content))
+      → raw.path.items ≡ path_among blob.version blob.size (blocks_on g d tree) raw.window
+      → raw.bytes.items ≡ data_window blob.size raw.window (blocks_on g d content)
       → Holds g places blob raw d
-  holds_of blob raw content tree need there content_is tree_is path bytes whole root =
+  holds_of blob raw content tree need there content_is tree_is path bytes root =
       let v : ℕ = blob.version in
       let n : ℕ = blob.size in
       let f : ℕ → List ℕ = λ b. block (now_of d) (block_at g b) in
       let content_blocks : blocks_on g d content ≡ data_among v n blocks = ap (map f) content_is ∙ data-map f v n places in
-      let tree_blocks : blocks_on g d tree ≡ tree_among v n blocks = ap (map f) tree_is ∙ tree-map f v n places in
-      let content_whole : AreWhole (blocks_on g d content) = subst AreWhole (sym content_blocks) (data-has (λ (b : List ℕ). length b ≡ 8192) v n blocks whole) in
-      let tree_whole : AreWhole (blocks_on g d tree) = subst AreWhole (sym tree_blocks) (tree-has (λ (b : List ℕ). length b ≡ 8192) v n blocks whole) in (
-        bytes content_whole ∙ ap (data_window n raw.window) content_blocks,
-        path tree_whole ∙ ap (λ (bs : List (List ℕ)). path_among v n bs raw.window) tree_blocks ∙ path-is root blob raw.window blocks (as_long ∙ need) there,
+      let tree_blocks : blocks_on g d tree ≡ tree_among v n blocks = ap (map f) tree_is ∙ tree-map f v n places in (
+        bytes ∙ ap (data_window n raw.window) content_blocks,
+        path ∙ ap (λ (bs : List (List ℕ)). path_among v n bs raw.window) tree_blocks ∙ path-is root blob raw.window blocks (as_long ∙ need) there,
       )
+
+pub told_blocks_whole : (g : Geometry) (places : List ℕ) (o : Option Disk) → All (λ b. b < g.blocks) places → IfSome o (HasWholeBlocks g) → IfSome o (λ d. AreWhole (blocks_on g d places))
+told_blocks_whole g places None within whole = tt
+told_blocks_whole g places (Some d) within whole = blocks_whole g d places whole within

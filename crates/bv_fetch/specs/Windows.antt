@@ -1,7 +1,6 @@
 -- A window of a blob, by which of the blob's blocks are data and which are of its tree.
 use Rattle.std.specs.Prelude.{◌≡◌, ℕ, ◌+◌, ◌-◌, ◌*◌, ◌≤◌, ◌==◌, List, [], length, take, drop, map, sum_by, slice_index_or, if◌then◌else◌, vec_len, vec_capacity}
 use Rattle.std.specs.List.{range_with_len, concat}
-use Rattle.spec_disk.specs.Laws.{AreWhole}
 use Rattle.spec_record.specs.declared.geometry.Geometry.{Geometry}
 use Rattle.spec_tree.specs.declared.Digest.{Digest}
 use Rattle.spec_tree.specs.declared.blob.Blob.{Blob}
@@ -65,10 +64,10 @@ pub record HasLengths (size w : ℕ) (raw : RawWindow) : Type 0 where
   pub bytes : length raw.bytes.items ≡ window_bytes size w
   pub path : length raw.path.items ≡ levels_of size
 
--- the window is that of the blob at these places of the disk, where each block there has 8,192 bytes
+-- the window is that of the blob at these places of the disk
 abbrev pub Holds : Geometry → List ℕ → Blob → RawWindow → Disk → Type 0
 Holds g places blob raw d =
-    AreWhole (blocks_on g d places) → (root : Digest)
+    (root : Digest)
     → let b = blob_record root blob in
     (raw.bytes.items ≡ fetched_bytes b (blocks_on g d places) raw.window)
     × (raw.path.items ≡ fetched_path b (blocks_on g d places) raw.window)

@@ -2,7 +2,6 @@
 
 ghost use Rattle.std.specs.Prelude.{◌≡◌, ◌≤◌, ◌<◌, ◌+◌, ◌++◌, take, length, vec_len, vec_capacity, All, OnOk};
 ghost use Rattle.spec_disk.specs.Disk.{block};
-ghost use Rattle.spec_disk.specs.Laws.{AreWhole};
 ghost use Rattle.spec_record.specs.Geometry.{block_at};
 ghost use Rattle.spec_tree.specs.Tree.{data_blocks, windows_of};
 ghost use Rattle.spec_window.specs.Window as W;
@@ -12,6 +11,7 @@ ghost use Rattle.bv_fetch.specs.Reading.{OnlyReads, SeesNow};
 ghost use Rattle.bv_fetch.specs.Windows.{data_window};
 
 use crate::BLOCK_LEN;
+use crate::places::are_whole;
 use crate::pushing::push_bytes;
 use bv_proof::window_bytes;
 use bv_store::{Failed, Store};
@@ -56,10 +56,10 @@ pub(crate) fn read_data<S: Store>(
     ensures reads { OnlyReads result (S.seen store.old) (S.seen store.new) (S.both store.old)
         (S.both store.new) (S.held store.old) (S.held store.new) }
     ensures len { OnOk result (vec_len out.new ≡ W.window_bytes size window) }
-    ensures now { OnOk result (SeesNow (S.seen store.old) (λ d.
-        AreWhole (blocks_on (S.seen store.old).geometry d content.now) → out.new.items
+    ensures now { OnOk result (SeesNow (S.seen store.old) (λ d. out.new.items
         ≡ data_window size window (blocks_on (S.seen store.old).geometry d content.now))) }
 {
+    are_whole(store, content);
     let bytes = window_bytes(size, window);
     for k in 0..bytes.div_ceil(BLOCK_LEN as u64) {
         let count = (bytes - BLOCK_LEN as u64 * k).min(BLOCK_LEN as u64);

@@ -1,12 +1,15 @@
 //! Which of a blob's blocks are data, and which are of its tree.
 
-ghost use Rattle.std.specs.Prelude.{◌≡◌, ◌≤◌, ◌^◌, length};
+ghost use Rattle.std.specs.Prelude.{◌≡◌, ◌<◌, ◌≤◌, ◌^◌, length, All, IfSome};
 ghost use Rattle.std.specs.List.{range_with_len, sum_by};
+ghost use Rattle.spec_disk.specs.Laws.{AreWhole};
 ghost use Rattle.spec_tree.specs.Tree as T;
+ghost use Rattle.bv_store.specs.Stored.{blocks_on};
 ghost use Rattle.bv_fetch.specs.Windows as F;
 
 use crate::BLOCK_LEN;
 use bv_proof::digests_at;
+use bv_store::Store;
 
 /// The places of the data blocks among those of a blob's blocks.
 pub(crate) fn data_among(places: &[u64], version: u32, size: u64) -> &[u64]
@@ -32,6 +35,15 @@ pub(crate) fn tree_among(places: &[u64], version: u32, size: u64) -> &[u64]
     } else {
         &places[..places.len() - count]
     }
+}
+
+/// Where the store tells, the blocks at these places have 8,192 bytes.
+pub(crate) fn are_whole<S: Store>(store: &S, _places: &[u64])
+    requires { All (λ b. b < (S.seen store.now).geometry.blocks) _places.now }
+    ensures { IfSome (S.seen store.now).told
+        (λ d. AreWhole (blocks_on (S.seen store.now).geometry d _places.now)) }
+{
+    let _geometry = store.geometry();
 }
 
 /// How many digests these levels have, so many from one on.

@@ -1,13 +1,12 @@
 //! The path of a window, read block by block.
 
 ghost use Rattle.std.specs.Prelude.{◌≡◌, ◌≤◌, ◌<◌, ◌+◌, ◌++◌, take, drop, length, vec_len, vec_capacity, All, OnOk};
-ghost use Rattle.spec_disk.specs.Laws.{AreWhole};
 ghost use Rattle.spec_tree.specs.Tree as T;
 ghost use Rattle.bv_store.specs.Stored.{blocks_on};
 ghost use Rattle.bv_fetch.specs.Reading.{OnlyReads, SeesNow};
 ghost use Rattle.bv_fetch.specs.Windows.{block_among, compact_among, padded_among, path_among};
 
-use crate::places::digests_of;
+use crate::places::{are_whole, digests_of};
 use crate::pushing::push_block;
 use crate::{BLOCK_LEN, DIGEST_LEN, DIGESTS};
 use bv_merkle::levels;
@@ -64,10 +63,10 @@ fn read_compact<S: Store>(
     requires within { All (λ b. b < (S.seen store.old).geometry.blocks) tree.now }
     ensures reads { OnlyReads result (S.seen store.old) (S.seen store.new) (S.both store.old)
         (S.both store.new) (S.held store.old) (S.held store.new) }
-    ensures now { OnOk result (SeesNow (S.seen store.old) (λ d.
-        AreWhole (blocks_on (S.seen store.old).geometry d tree.now) → into.new
+    ensures now { OnOk result (SeesNow (S.seen store.old) (λ d. into.new
         ≡ compact_among size (blocks_on (S.seen store.old).geometry d tree.now) level i)) }
 {
+    are_whole(store, tree);
     let place = digests_of(size, 0, level - 1) + DIGESTS * i;
     let used = DIGEST_LEN * used_places(size, level, i) as usize;
     let first = (place / DIGESTS) as usize;
@@ -101,8 +100,7 @@ fn read_tree_block<S: Store>(
     requires within { All (λ b. b < (S.seen store.old).geometry.blocks) tree.now }
     ensures reads { OnlyReads result (S.seen store.old) (S.seen store.new) (S.both store.old)
         (S.both store.new) (S.held store.old) (S.held store.new) }
-    ensures now { OnOk result (SeesNow (S.seen store.old) (λ d.
-        AreWhole (blocks_on (S.seen store.old).geometry d tree.now) → into.new
+    ensures now { OnOk result (SeesNow (S.seen store.old) (λ d. into.new
         ≡ block_among version size (blocks_on (S.seen store.old).geometry d tree.now) level i)) }
 {
     if version == 2 {
@@ -130,8 +128,7 @@ pub(crate) fn read_path<S: Store>(
     ensures reads { OnlyReads result (S.seen store.old) (S.seen store.new) (S.both store.old)
         (S.both store.new) (S.held store.old) (S.held store.new) }
     ensures len { OnOk result (vec_len path.new ≡ T.levels_of size) }
-    ensures now { OnOk result (SeesNow (S.seen store.old) (λ d.
-        AreWhole (blocks_on (S.seen store.old).geometry d tree.now) → path.new.items
+    ensures now { OnOk result (SeesNow (S.seen store.old) (λ d. path.new.items
         ≡ path_among version size (blocks_on (S.seen store.old).geometry d tree.now) window)) }
 {
     for below in 0..levels(size) {

@@ -3,7 +3,7 @@ use Rattle.spec_disk.specs.Disk.{block}
 use Rattle.spec_record.specs.Geometry.{block_at}
 use Rattle.bv_device.specs.Told.{now_of}
 use Rattle.bv_store.specs.Stored.{blocks_on}
-use Rattle.bv_fetch.proofs.Sees.{sees_same, sees_so, sees_two, stays_of, stays_then}
+use Rattle.bv_fetch.proofs.Sees.{sees_given, sees_same, sees_so, sees_two, stays_of, stays_then}
 use Rattle.bv_fetch.proofs.Steps.{data_step}
 use Rattle.bv_fetch.proofs.Wholes.{data-all}
 use Rattle.bv_fetch.proofs.data.read_data.Goals as goal
@@ -33,4 +33,5 @@ loop-k-preserved g c =
 pub returns-clause-now : goal.returns-clause-now
 returns-clause-now g c =
     let s = g.S.Store.seen c.args.store.now in
-    sees_so s _ _ (λ d p whole. p whole ∙ data-all c.args.size c.args.window c.loop-k.k (blocks_on s.geometry d c.args.content.now) (omega (arith, c.loop-k-test.false, c.div_ceil-k-end.ensures, c.window_bytes-bytes.ensures))) c.loop-k.invariant.now
+    sees_given s _ _ c.are_whole.ensures
+    (sees_so s _ _ (λ d p whole. p whole ∙ data-all c.args.size c.args.window c.loop-k.k (blocks_on s.geometry d c.args.content.now) (omega (arith, c.loop-k-test.false, c.div_ceil-k-end.ensures, c.window_bytes-bytes.ensures))) c.loop-k.invariant.now)

@@ -1,6 +1,5 @@
 use Rattle.std.proofs.Common.{◌≡◌, ℕ, ◌+◌, map, ap, ◌∙◌, arith}
 use Rattle.std.specs.List.{range_with_len}
-use Rattle.spec_disk.specs.Laws.{AreWhole}
 use Rattle.spec_window.specs.Window.{index_above}
 use Rattle.bv_store.specs.Stored.{blocks_on}
 use Rattle.bv_fetch.specs.Windows.{block_among}
@@ -27,14 +26,14 @@ loop-below-preserved g c =
           (stays_of (g.S.Store.seen mid) (g.S.Store.seen new) (g.S.Store.both mid) (g.S.Store.both new) (g.S.Store.held mid) (g.S.Store.held new) tt c.in_ok-read_tree_block.ensures.reads);
       len = omega (arith, c.push_block.ensures.len, inv.len);
       room = omega (arith, inv.room, c.push_block.ensures.room);
-      now = sees_two s _ (λ d. AreWhole (blocks_on s.geometry d c.args.tree.now) → x ≡ block_among c.args.version c.args.size (blocks_on s.geometry d c.args.tree.now) (below + 1) i) _
-          (λ d p q whole. path_step s.geometry d c.args.tree.now c.args.version c.args.size c.args.window below i c.loop-below.path.items c.push_block.new.out.items x c.index_above-i.ensures.value (p whole) (q whole) c.push_block.ensures.items)
+      now = sees_two s _ (λ d. x ≡ block_among c.args.version c.args.size (blocks_on s.geometry d c.args.tree.now) (below + 1) i) _
+          (λ d p q. path_step s.geometry d c.args.tree.now c.args.version c.args.size c.args.window below i c.loop-below.path.items c.push_block.new.out.items x c.index_above-i.ensures.value p q c.push_block.ensures.items)
           inv.now
-          (sees_same s (g.S.Store.seen mid) (λ geometry d. AreWhole (blocks_on geometry d c.args.tree.now) → x ≡ block_among c.args.version c.args.size (blocks_on geometry d c.args.tree.now) (below + 1) i) inv.stays.same c.in_ok-read_tree_block.ensures.now);
+          (sees_same s (g.S.Store.seen mid) (λ geometry d. x ≡ block_among c.args.version c.args.size (blocks_on geometry d c.args.tree.now) (below + 1) i) inv.stays.same c.in_ok-read_tree_block.ensures.now);
     }
 
 pub returns-clause-now : goal.returns-clause-now
 returns-clause-now g c =
     let s = g.S.Store.seen c.args.store.now in
     let all : c.loop-below.below ≡ c.levels-below-end.result = omega (arith, c.loop-below-test.false, c.loop-below.auto) in
-    sees_so s _ _ (λ d p whole. p whole ∙ ap (λ (n : ℕ). map (λ level. block_among c.args.version c.args.size (blocks_on s.geometry d c.args.tree.now) level (index_above c.args.window level)) (range_with_len 1 n)) (all ∙ c.levels-below-end.ensures.levels)) c.loop-below.invariant.now
+    sees_so s _ _ (λ d p. p ∙ ap (λ (n : ℕ). map (λ level. block_among c.args.version c.args.size (blocks_on s.geometry d c.args.tree.now) level (index_above c.args.window level)) (range_with_len 1 n)) (all ∙ c.levels-below-end.ensures.levels)) c.loop-below.invariant.now

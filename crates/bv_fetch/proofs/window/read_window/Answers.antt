@@ -1,6 +1,5 @@
 use Rattle.std.proofs.Common.{◌≡◌}
 use Rattle.bv_fetch.proofs.Amongs.{data-within, length-data, length-tree}
-use Rattle.spec_disk.specs.Laws.{AreWhole}
 use Rattle.bv_proof.specs.declared.raw.RawWindow.{RawWindow}
 use Rattle.bv_store.specs.Stored.{blocks_on}
 use Rattle.bv_fetch.specs.Windows.{data_window}
@@ -32,7 +31,7 @@ returns-clause-now g c =
     let raw : RawWindow = record { window = c.args.raw.now.window; bytes = c.read_data.new.out; path = c.read_path.new.path } in
     let same : g.S.Store.seen mid ≡ s = (stays_of s (g.S.Store.seen mid) (g.S.Store.both old) (g.S.Store.both mid) (g.S.Store.held old) (g.S.Store.held mid) tt c.in_ok-read_path.ensures.reads).same in
     ok_then c.read_data.result c.read_data.ensures.now (λ h.
-    sees_two s _ (λ d. AreWhole (blocks_on s.geometry d content) → c.read_data.new.out.items ≡ data_window blob.size c.args.raw.now.window (blocks_on s.geometry d content)) _
+    sees_two s _ (λ d. c.read_data.new.out.items ≡ data_window blob.size c.args.raw.now.window (blocks_on s.geometry d content)) _
     (λ d p q. holds_of s.geometry d places blob raw content tree c.requires.need c.requires.window c.data_among-content.ensures c.tree_among-tree.ensures p q)
     c.in_ok-read_path.ensures.now
-    (sees_same s (g.S.Store.seen mid) (λ geometry d. AreWhole (blocks_on geometry d content) → c.read_data.new.out.items ≡ data_window blob.size c.args.raw.now.window (blocks_on geometry d content)) same h))
+    (sees_same s (g.S.Store.seen mid) (λ geometry d. c.read_data.new.out.items ≡ data_window blob.size c.args.raw.now.window (blocks_on geometry d content)) same h))
