@@ -27,7 +27,7 @@ returns-in_err-superblock-clause-reads g c =
     let s0 = c.in_ok-geometry.field-0 in
     let old = g.D.Device.seen c.args.dev.now in
     let parts = parts_read old _ _ _ s0 c.in_ok-replay.replay c.in_ok-meta.meta (g.met.D.Device.told_blocks c.args.dev.now) c.in_ok-geometry.ensures.reads c.in_ok-replay.ensures.reads c.in_ok-meta.ensures.reads in
-    let blocks : c.blocks-2.result ≡ old.block_count = c.blocks-2.ensures ∙ parts.only.blocks in
+    let blocks : c.blocks-2.result ≡ old.block_count = c.blocks-2.ensures.count ∙ parts.only.blocks in
     moved_stopped c.from_residual-in_err-superblock.result c.in_err-superblock.field-0.0 old _ s0 c.in_ok-replay.replay c.in_ok-meta.meta c.from_residual-in_err-superblock.ensures.1
     (subst (λ (n : ℕ). Err c.in_err-superblock.field-0.0 ≡ or_moved (kept_super s0.geometry (block c.in_ok-meta.meta.blocks 0) n)) blocks c.in_err-superblock.ensures.value) parts
 
@@ -44,7 +44,7 @@ returns-clause-reads g c =
     let old = g.D.Device.seen c.args.dev.now in
     let s = c.in_ok-superblock.superblock in
     let parts = parts_read old _ _ _ s0 c.in_ok-replay.replay c.in_ok-meta.meta (g.met.D.Device.told_blocks c.args.dev.now) c.in_ok-geometry.ensures.reads c.in_ok-replay.ensures.reads c.in_ok-meta.ensures.reads in
-    let blocks : c.blocks-2.result ≡ old.block_count = c.blocks-2.ensures ∙ parts.only.blocks in
+    let blocks : c.blocks-2.result ≡ old.block_count = c.blocks-2.ensures.count ∙ parts.only.blocks in
     let is : Ok s ≡ or_moved (kept_super s0.geometry (block c.in_ok-meta.meta.blocks 0) old.block_count) =
     subst (λ (n : ℕ). Ok s ≡ or_moved (kept_super s0.geometry (block c.in_ok-meta.meta.blocks 0) n)) blocks c.in_ok-superblock.ensures.value in
     Reads-weaker None _ _ (Parts old.block_count s0 c.in_ok-replay.replay c.in_ok-meta.meta) _ parts (λ j p. parts_are_read old.block_count s0 c.in_ok-replay.replay c.in_ok-meta.meta s j p is)
