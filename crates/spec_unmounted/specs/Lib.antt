@@ -1,0 +1,2 @@
+-- What an unmount leaves on the device.
+pub mod Unmounted

@@ -1,0 +1,4 @@
+//! What an unmount leaves on the device.
+#![tactic(auto)]
+
+pub mod laws;
