@@ -42,11 +42,11 @@ use Rattle.spec_orderly.specs.Slots.{SlotsHoldTheirOwn, slot_of}
 use Rattle.spec_orderly.proofs.Adding.{Fresh, Once, emptied_map, fresh_change, once_insert, once_remove, settles_new}
 
 -- what each session's slots hold, by their own events
-abbrev Slots : Type 0
+abbrev pub Slots : Type 0
 Slots = ℕ → ℕ → Option Named
 
 -- what they hold after one event more
-abbrev own_after : Slots → Who → Act → Reply → Slots
+abbrev pub own_after : Slots → Who → Act → Reply → Slots
 own_after own w a q s i = if w.session == s then slot_after i (own s i) a q else own s i
 
 abbrev Told : Slots → State → Type 0
@@ -70,7 +70,7 @@ held_here (e ∷ es) p r h = go (is_at (place_cmp p) e.0) (held_here es p r) h
     go true later is = let self = same_self r in let same : e.1 ≡ r = cc in rw (same, self) refl
     go false later is = either (same_digest r e.1) (later is)
 
-apart_bools : (b : Bool) → b ≡ false → b ≡ true → ⊥
+pub apart_bools : (b : Bool) → b ≡ false → b ≡ true → ⊥
 apart_bools b off on = let apart : false ≡ true = sym off ∙ on in cc
 
 -- ---- what a deed leaves of what slots hold
@@ -187,7 +187,7 @@ left_after g st w a q fresh keeps once c none p r is =
 
 -- ---- what sessions know after an event
 
-same_either : (b : Bool) (o : Option Named) → (if b then o else o) ≡ o
+pub same_either : (b : Bool) (o : Option Named) → (if b then o else o) ≡ o
 same_either true o = refl
 same_either false o = refl
 
@@ -289,14 +289,14 @@ module _ (g : Setting) (st : State) (own : Slots) (k : Holds own st) (w : Who) w
 -- ---- events one after another
 
 -- what sessions' slots hold after these events
-abbrev owns : List CoreEvent → Slots
+abbrev pub owns : List CoreEvent → Slots
 owns before s i = slot_holds i (events_of s before)
 
 slot_from-append : (i : ℕ) (o : Option Named) (es fs : List CoreEvent) → slot_from i o (es ++ fs) ≡ slot_from i (slot_from i o es) fs
 slot_from-append i o [] fs = refl
 slot_from-append i o (e ∷ es) fs = slot_from-append i (slot_after i o e.act e.reply) es fs
 
-owns_more : (before : List CoreEvent) (e : CoreEvent) (s i : ℕ) → owns (before ++ e ∷ []) s i ≡ own_after (owns before) e.who e.act e.reply s i
+pub owns_more : (before : List CoreEvent) (e : CoreEvent) (s i : ℕ) → owns (before ++ e ∷ []) s i ≡ own_after (owns before) e.who e.act e.reply s i
 owns_more before e s i = ap (slot_holds i) (filter-append (λ (x : CoreEvent). x.who.session == s) before (e ∷ [])) ∙ by_test (e.who.session == s)
   where
     by_test : (b : Bool) → slot_holds i (events_of s before ++ cond b (e ∷ []) []) ≡ (if b then slot_after i (owns before s i) e.act e.reply else owns before s i)

@@ -2,7 +2,7 @@
 
 ghost use Rattle.spec_orderly.specs.Named.{ConformingTellRoots};
 ghost use Rattle.spec_orderly.specs.Orderly.{AddsAreApart, OwnAddsAreUnderWay};
-ghost use Rattle.spec_orderly.specs.Slots.{SlotsHoldTheirOwn};
+ghost use Rattle.spec_orderly.specs.Slots.{OwnSlotsAreHeld, SlotsHoldTheirOwn};
 
 /// The add that a session has under way by its own events is under way in the core, with its size.
 pub fn an_own_add_is_under_way()
@@ -22,4 +22,9 @@ pub fn conforming_sessions_tell_the_roots()
 /// A root that a slot holds is in the map, and by its own events the session holds it there.
 pub fn slots_hold_what_their_sessions_opened()
     ensures { SlotsHoldTheirOwn }
+{}
+
+/// Before an unmount, a root that a slot holds by its session's own events is held there in the core.
+pub fn own_slots_are_held()
+    ensures { OwnSlotsAreHeld }
 {}
