@@ -1,13 +1,18 @@
 -- What the entries of a value say of its device, and of what was listed.
-use Rattle.std.specs.Prelude.{◌≡◌, ℕ, List, ◌∷◌, ◌++◌, take, All, Option, Some, None, IfSome, IsTrue}
+use Rattle.std.specs.Prelude.{◌≡◌, ℕ, List, [], ◌∷◌, ◌++◌, map, take, All, Option, Some, None, IfSome, IsSomeAnd, IsTrue}
 use Rattle.spec_disk.specs.declared.event.Event.{Event}
-use Rattle.spec_disk.specs.Disk.{now_after, reads_right}
+use Rattle.spec_disk.specs.Disk.{Blocks, block, now_after, reads_right}
+use Rattle.spec_disk.specs.Images.{IsSettled}
+use Rattle.spec_disk.specs.Laws.{AreWhole}
+use Rattle.spec_image.specs.Chain.{BlobRecord}
+use Rattle.spec_image.specs.Stored.{fetched_bytes, fetched_path}
 use Rattle.spec_core.specs.History.{last_state}
+use Rattle.spec_core.specs.State.{find}
 use Rattle.spec_core.specs.declared.event.CoreEvent.{CoreEvent}
 use Rattle.spec_session.specs.Own.{Named}
 use Rattle.spec_session.specs.Told.{present_blobs}
-use Rattle.spec_served.specs.Device.{At, bytes_at, path_at}
 use Rattle.spec_tree.specs.declared.Digest.{Digest}
+use Rattle.spec_tree.specs.declared.blob.Blob.{Blob}
 use Rattle.bv_proof.specs.declared.raw.RawWindow.{RawWindow}
 use Rattle.bv_session.specs.declared.entry.Basis.{Basis}
 use Rattle.bv_session.specs.declared.entry.Entry.{Entry}
@@ -32,18 +37,34 @@ EachLists basis entries =
     → entries ≡ before ++ e ∷ rest → e.listed ≡ Some blobs
     → blobs ≡ present_blobs (last_state (history_of basis before) basis.next)
 
+-- the blocks of a disk at these places
+abbrev pub blocks_at : Blocks → List ℕ → List (List ℕ)
+blocks_at disk places = map (block disk) places
+
+-- a blob without its places
+abbrev pub record_of : Digest → Blob → BlobRecord
+record_of root b = record {
+  root = root;
+  size = b.size;
+  version = b.version;
+  extents = [];
+  nodes = [];
+}
+
 -- no block's last write failed with no Ok sync after it
 abbrev pub ReadsRight : List Event → Type 0
 ReadsRight events = (b : ℕ) → IsTrue (reads_right events b)
 
--- A window that was fetched by this event, after these entries, is what the disk had then at the
--- blob's blocks: where the device tells, and reads give what it has.
+-- A window that was fetched by this event, after these entries, is that of the blob as the disk then
+-- has it at the blocks where the blob lies: where the device tells, was settled at the opening, reads
+-- give what it has, and each of these blocks has 8,192 bytes.
 abbrev pub IsOnDisk
-    : Basis → List Event → List Entry → Named → CoreEvent → RawWindow → Type 0
-IsOnDisk basis events before blob e raw =
-    IfSome basis.told (λ d. ReadsRight (d.trace ++ take e.calls events)
-    → let disk = now_after d.base d.trace in
-    let h = history_of basis before in
-    let at : At = record { before = events_in before; own = e; blob = blob } in
-    (raw.bytes.items ≡ bytes_at disk events h at raw.window)
-    × (raw.path.items ≡ path_at disk events h at raw.window))
+    : Basis → List Event → List Entry → (Digest → List ℕ) → Named → CoreEvent → RawWindow → Type 0
+IsOnDisk basis events before lies blob e raw =
+    IfSome basis.told (λ d. IsSettled d.trace → ReadsRight (take e.calls events)
+    → let now = now_after (now_after d.base d.trace) (take e.calls events) in
+    let blocks = blocks_at now (lies blob.0) in
+    AreWhole blocks
+    → IsSomeAnd (find (last_state (history_of basis before) basis.next).map blob.0) (λ b.
+    (raw.bytes.items ≡ fetched_bytes (record_of blob.0 b) blocks raw.window)
+    × (raw.path.items ≡ fetched_path (record_of blob.0 b) blocks raw.window)))

@@ -1,7 +1,7 @@
 //! The event calls of a value behind the lock, which know nothing of the lock.
 ghost use Rattle.std.specs.Prelude.{◌≡◌, ℕ, ◌+◌, ◌<◌, ◌≤◌, true, false, List, Some, None, OnErr, IfOk, IfErr, IfSome, IsSomeAnd, length};
 ghost use Rattle.spec_tree.specs.Tree.{need_of, windows_of};
-ghost use Rattle.spec_core.specs.History.{Legal};
+ghost use Rattle.spec_tree.specs.declared.Digest.{Digest as Root};
 ghost use Rattle.spec_core.specs.Synced.{Caused};
 ghost use Rattle.spec_core.specs.declared.act.Act.TheVariants.{Begin, Admit, Put, Settle, Retire, Open, Fetch, Read, Scan, Close, Unlink, Sync, List as ListAll};
 ghost use Rattle.spec_core.specs.declared.reply.Reply.TheVariants.{Granted, Admitted, Written, Published, Retired, Opened, Fetched, Reading, Closed, Unlinked, Synced, Listed};
@@ -12,7 +12,7 @@ ghost use Rattle.bv_session.specs.declared.entry.Entry.{Entry};
 ghost use Rattle.bv_session.specs.declared.entry.Basis.{Basis};
 ghost use Rattle.bv_turn.specs.Entries.{entries_of};
 ghost use Rattle.bv_writer.specs.Blocks.{IsBlobOf};
-ghost use Rattle.bv_session.specs.Events.{own_events, history_of, Notes, NotesAs, IfRefused, IsReadFault, IsRefusal, IfDone, IfRefuses, reply_by, reply_or, IsUnderWay, IsLook, put_by, SurvivesFrom};
+ghost use Rattle.bv_session.specs.Events.{own_events, history_of, Notes, NotesAs, IfRefused, IsReadFault, IsRefusal, IfDone, IfRefuses, reply_by, reply_or, IsUnderWay, IsLook, put_by};
 ghost use Rattle.bv_session.specs.Written.{Wrote, written};
 ghost use Rattle.bv_session.specs.Disk.{IsOnDisk, EachTells, EachLists};
 ghost use Rattle.bv_pager.specs.Reading.{FitsIn};
@@ -60,6 +60,9 @@ pub trait Serves: Keeps<Entry = Entry, Basis = Basis> {
 
     /// How many calls of the device have failed.
     ghost fault_count: { Self → ℕ };
+
+    /// The device's blocks where a blob lies, in order.
+    ghost lies: { Self → Root → List ℕ };
 
     /// Puts an add under way, of a blob of at most 65,535 blocks. The session has no other.
     fn begin(
@@ -230,7 +233,7 @@ pub trait Serves: Keeps<Entry = Entry, Basis = Basis> {
             (λ e. IfDone a (λ x. IfSome
             (slot_holds slot (own_events Self.session who.session (Self.entries self.old)))
             (λ blob. IsOnDisk (Self.basis self.old) (device_events self.new)
-            (Self.entries self.old) blob e.event x)))) }
+            (Self.entries self.old) (lies self.old) blob e.event x)))) }
         ensures done { IfOk result (λ a. IfDone a (λ x.
             IfSome (slot_holds slot (own_events Self.session who.session (Self.entries self.old)))
             (λ blob. (x.window ≡ window) × FitsIn blob.1 x))) }
@@ -263,9 +266,6 @@ pub trait Serves: Keeps<Entry = Entry, Basis = Basis> {
     /// An entry is of the session that made its event.
     ghost session_is: { (e : Entry) → Self.session e ≡ e.event.who.session };
 
-    /// The history is legal.
-    ghost legal: { (v : Self) → Legal (history_of (Self.basis v) (Self.entries v)) (Self.basis v).next };
-
     /// An entry has what the device told by its end.
     ghost tells: { (v : Self)
         → EachTells (Self.basis v).told (device_events v) (Self.entries v) };
@@ -276,8 +276,4 @@ pub trait Serves: Keeps<Entry = Entry, Basis = Basis> {
     /// Its faults came from the device.
     ghost caused: { (v : Self) → Caused (history_of (Self.basis v) (Self.entries v))
         (Self.basis v).faults (fault_count v) };
-
-    /// Wherever the machine stops, mounting gives a prefix.
-    ghost survives: { (v : Self)
-        → SurvivesFrom (Self.basis v) (device_events v) (Self.entries v) };
 }
