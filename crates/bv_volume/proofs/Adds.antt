@@ -68,14 +68,14 @@ begin_silent (Err beginning.InFlight) = (refl, refl)
 begin_silent (Err (beginning.NoSpace a b)) = (refl, refl)
 begin_silent (Err beginning.NoMemory) = tt
 
-pub begin_same : {T : Type 0} (a b : Owned) (r : Result T BeginFault) → OnErr r (b ≡ a) → SameSpace (begin_reply r) a b
-begin_same a b (Ok v) same = tt
-begin_same a b (Err (beginning.Stopped f)) same = tt
-begin_same a b (Err beginning.Exists) same = tt
-begin_same a b (Err (beginning.Leaving h)) same = tt
-begin_same a b (Err beginning.InFlight) same = tt
-begin_same a b (Err (beginning.NoSpace x y)) same = tt
-begin_same a b (Err beginning.NoMemory) same = ap (λ (x : Owned). record x { spare = 0 }) same
+pub begin_same : {T : Type 0} (t new : Tables) (a b : Owned) (root : Digest) (size : ℕ) (r : Result T BeginFault) → OnOk r (Begins t new a b root size) → OnErr r (b ≡ a) → SameSpace (begin_reply r) a b
+begin_same t new a b root size (Ok v) ok same = ap (λ (x : Owned). x.claims) ok.space
+begin_same t new a b root size (Err (beginning.Stopped f)) ok same = ap (λ (x : Owned). x.claims) same
+begin_same t new a b root size (Err beginning.Exists) ok same = ap (λ (x : Owned). x.claims) same
+begin_same t new a b root size (Err (beginning.Leaving h)) ok same = ap (λ (x : Owned). x.claims) same
+begin_same t new a b root size (Err beginning.InFlight) ok same = ap (λ (x : Owned). x.claims) same
+begin_same t new a b root size (Err (beginning.NoSpace x y)) ok same = ap (λ (x : Owned). x.claims) same
+begin_same t new a b root size (Err beginning.NoMemory) ok same = ap (λ (x : Owned). record x { spare = 0 }) same
 
 space_put : (g : Setting) (r x : Digest) (n : ℕ) (v : Vec ℕ) (adds : List (Digest × ℕ)) (spaces : List (Digest × Vec ℕ)) → HasSpace g n v.items → SpaceAt g (find adds x) (find spaces x) → SpaceAt g (find (insert_entry digest_cmp adds r n) x) (find (insert_entry digest_cmp spaces r v) x)
 space_put g r x n v adds spaces has old = rw (lookup-insert_entry digest_total adds r n x, lookup-insert_entry digest_total spaces r v x) (go (same_digest x r))

@@ -50,6 +50,10 @@ pub admit_silent : (r : Result (Unit {0}) NoNodes) → IsSilent (Some (A.admit_r
 admit_silent (Ok v) = (refl, refl)
 admit_silent (Err e) = (refl, refl)
 
+pub admit_claims : (o mid o' : Owned) (r : Digest) (free count : ℕ) (res : Result (Unit {0}) NoNodes) → mid ≡ record o { nodes = insert_entry digest_cmp o.nodes r 0 } → OnOk res (Admitting mid o' r free count) → OnErr res (Ending mid o' r count) → o'.claims ≡ o.claims
+admit_claims o mid o' r free count (Ok v) marked ok err = ap (λ (x : Owned). x.claims) ok.is ∙ ap (λ (x : Owned). x.claims) marked
+admit_claims o mid o' r free count (Err e) marked ok err = ap (λ (x : Owned). x.claims) err.is ∙ ap (λ (x : Owned). x.claims) marked
+
 module _ (t new : Tables) (o mid o' : Owned) (s : Stored) (Held : ℕ → Type 0) (log : List MapChange) (durable : ℕ) (who : Who) (r : Digest) (size free count : ℕ) (w : Vec ℕ) (accounts : Accounts t log durable) (spaced : Spaced t o s Held) (under : find t.adds r ≡ Some size) (had : find o.adds r ≡ Some w) (empty : w.items ≡ []) (unset : find o.nodes r ≡ None) (sole : Sole t.adds)
     (noted : mid ≡ record o { nodes = insert_entry digest_cmp o.nodes r 0 }) (counts : count ≡ need_of t.setting.version size) (frees : free ≡ s.geometry.nodes - s.used_nodes - sum (values_of o.nodes)) where
   abbrev marked : Owned

@@ -63,7 +63,7 @@ module _ (n n' : Noted) (next : ℕ) (t : Tables) (a : Owned) (s s' : Stored) (B
       let kept_on = kept_silent n next t t s s'.faults Both New who (Fetch slot w) q kept does silent counts both room in
       let here : CallDone n (with_noted n (event_of who (Fetch slot w) q s.calls)) next t t a a s (record s { faults = s'.faults }) New who (Fetch slot w) (Some q) = record {
         kept = kept_on;
-        does = happens_silent n next t t s s'.faults Both New who (Fetch slot w) q kept does silent counts both a a room faults;
+        does = happens_silent n next t t s s'.faults Both New who (Fetch slot w) q kept does silent counts both a a refl room faults;
         safe = safe_of _ next t a (record s { faults = s'.faults }) New kept_on;
       } in
       rw is (subst (λ (x : Stored). CallDone n (with_noted n (event_of who (Fetch slot w) q x.calls)) next t t a a s x New who (Fetch slot w) (Some q)) (sym rest) here)

@@ -141,9 +141,9 @@ module _ (n : Noted) (next : ℕ) (t new : Tables) (o o' : Owned) (s z w : Store
       number = e.number;
     }
 
-    pub publish_call : (counted : IfSome w.told (λ d. length d.trace ≡ w.calls)) (holds : (x y : Map) → New x y → IfSome w.told (λ d. Leaves d.base d.trace (HoldsEither x y))) (room : length t.adds + 1 ≤ n.spare) (failed : Option ℕ) (n' : Noted) → n' ≡ with_noted n (event_of who (Settle a.root) (device_reply Published failed) w.calls) → L.Does t new who (Settle a.root) (Some (device_reply Published failed)) → Enters z w Mid New (λ m. entry_changes m entry) failed
+    pub publish_call : (same : o'.claims ≡ o.claims) (counted : IfSome w.told (λ d. length d.trace ≡ w.calls)) (holds : (x y : Map) → New x y → IfSome w.told (λ d. Leaves d.base d.trace (HoldsEither x y))) (room : length t.adds + 1 ≤ n.spare) (failed : Option ℕ) (n' : Noted) → n' ≡ with_noted n (event_of who (Settle a.root) (device_reply Published failed) w.calls) → L.Does t new who (Settle a.root) (Some (device_reply Published failed)) → Enters z w Mid New (λ m. entry_changes m entry) failed
         → CallDone n n' next t new o o' z w New who (Settle a.root) (Some (device_reply Published failed))
-    publish_call counted holds room failed n' is does enters = settle_call n next t new o o' z w Mid New who mid_kept going counted holds room a.root failed n' is does (enters_so failed enters)
+    publish_call same counted holds room failed n' is does enters = settle_call n next t new o o' same z w Mid New who mid_kept going counted holds room a.root failed n' is does (enters_so failed enters)
 
     pub publish_spaced : (failed : Option ℕ) → L.Does t new who (Settle a.root) (Some (device_reply Published failed)) → w.geometry ≡ z.geometry → (failed ≡ None → w.placed ≡ placed_after z.placed entry) → (failed ≡ None → w.used_nodes ≤ z.used_nodes + nodes_taken entry.published)
         → ((f : ℕ) → failed ≡ Some f → (w.placed ≡ z.placed) × (w.used_nodes ≡ z.used_nodes)) → ((b : ℕ) → NewHeld b → MidHeld b ⊎ Contains (taken_by entry.published) b)

@@ -60,7 +60,7 @@ module _ (n : Noted) (next : ℕ) (t new : Tables) (o : Owned) (s s' : Stored) (
   asked failed n' is does e =
       let last : State = last_state n.history next in
       let queue : t.queue ++ t.leaving ≡ last.queue ++ last.leaving = ap (λ (x : State). x.queue ++ x.leaving) (sym kept.state) in
-      let d = unmount_call n next t new o o s s' Both New who kept e.going counted holds (omega (arith, room)) failed n' is does
+      let d = unmount_call n next t new o o refl s s' Both New who kept e.going counted holds (omega (arith, room)) failed n' is does
       (subst (λ (q : List Digest). Lasts s s' Both New (λ m. purges m q ++ []) failed) queue e.lasts)
       (subst (λ (q : List Digest). failed ≡ None → s'.number ≡ cond (is_empty q) s.number (s.number + 1)) queue e.number) in
       (seen_of n' next new o s', refl, refl, d.does, d.safe)
@@ -68,7 +68,7 @@ module _ (n : Noted) (next : ℕ) (t new : Tables) (o : Owned) (s s' : Stored) (
   unasked : (q : Reply) (n' : Noted) → n' ≡ with_noted n (event_of who Unmount q s'.calls) → L.Does t new who Unmount (Some q) → IsSilent (Some q) → AsksNothing s s' Both New → Shows (seen_of n next t o s) n' s' who (Some q)
   unasked q n' is does silent a =
       let after = kept_planned n next t s s' Both New a.planned a.is a.both kept in
-      let d = quiet_call n n' next t new o o s' New who Unmount (Some q) tt is after does silent (has_room n next t new s Both who Unmount (Some q) kept does (λ x. refl) room) counted in
+      let d = quiet_call n n' next t new o o s' New who Unmount (Some q) refl is after does silent (has_room n next t new s Both who Unmount (Some q) kept does (λ x. refl) room) counted in
       (seen_of n' next new o s', refl, refl, subst (λ (v : Seen). Does v (seen_of n' next new o s') who Unmount (Some q)) (ap (λ (x : Stored). seen_of n next t o x) a.is) d.does, d.safe)
 
   pub unmount_shows : (res : Result (Unit {0}) UnmountFault) (n' : Noted) → n' ≡ noted n who Unmount (unmount_reply res) s'.calls → IfSome (unmount_reply res) (λ q. L.Does t new who Unmount (Some q)) → Unmounts t.stopped s s' Both New (t.queue ++ t.leaving) res → Shows (seen_of n next t o s) n' s' who (unmount_reply res)

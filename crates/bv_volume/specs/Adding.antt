@@ -60,10 +60,11 @@ pub record Begins (t new : Tables) (o o' : Owned) (r : Digest) (n : ℕ) : Type 
   }
 
 -- the disk has gained one write, of these bytes at the add's next block
-abbrev pub Writes : Seen → Seen → Admitted → List ℕ → Type 0
-Writes old new a bytes = IfSome (find old.space.adds a.root) (λ v.
-    Grows old.store.told new.store.told (λ d more. more
-    ≡ device.Write (block_at old.store.geometry (slice_index v.items a.put)) bytes true ∷ []))
+pub record Writes (old new : Seen) (a : Admitted) (bytes : List ℕ) : Type 0 where
+  pub blocks : Vec ℕ
+  pub has : find old.space.adds a.root ≡ Some blocks
+  pub next : Grows old.store.told new.store.told (λ d more. more
+      ≡ device.Write (block_at old.store.geometry (slice_index blocks.items a.put)) bytes true ∷ [])
 
 -- all blocks of the add were put and, where the device tells, they are the blocks, tree and data in
 -- their order, of bytes with its root and size

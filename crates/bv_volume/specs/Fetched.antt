@@ -40,6 +40,13 @@ pub record Fetches (old new : Stored) (Both New : Map → Map → Type 0) (Held 
   pub lengths : IfOk result (HasLengths blob.size w)
   pub now : IfOk result (λ raw. SeesNow old (Holds old.geometry places blob raw))
 
+-- the place holds the blob with this root and size
+pub record HoldsBlob (v : Seen) (place : Place) (root : Digest) (size : ℕ) : Type 0 where
+  pub holds : held (last_state v.history v.next).slots place ≡ Some root
+  pub blob : Blob
+  pub has : find (last_state v.history v.next).map root ≡ Some blob
+  pub size_is : blob.size ≡ size
+
 -- the window is that of the blob that the place holds: it has the lengths that the blob's size
 -- gives, and is what Now has at the blocks where the blob lies
 pub record HasFetched (v : Seen) (place : Place) (w : ℕ) (raw : RawWindow) : Type 0 where

@@ -10,9 +10,10 @@ ghost use Rattle.spec_core.specs.Room.{blob_need};
 ghost use Rattle.spec_core.specs.State.{find};
 ghost use Rattle.spec_tree.specs.Tree.{need_of};
 ghost use Rattle.spec_tree.specs.declared.Digest.{Digest as Root};
-ghost use Rattle.bv_volume.specs.Adding.{Begins, ClaimsFor, IsAdmitted, IsBegun};
+ghost use Rattle.bv_volume.specs.Adding.{Begins, ClaimsFor, IsBegun};
 ghost use Rattle.bv_volume.specs.Events.{Does};
 ghost use Rattle.bv_volume.specs.Seen.{IsSafe};
+ghost use Rattle.bv_volume.specs.Sessions.{HasAdmitted, HasBegun, MayBegin};
 
 use crate::noting::note;
 use crate::replies::begin_reply;
@@ -90,6 +91,7 @@ impl<'t, S: Store> Volume<'t, S> {
     ) -> Result<(Begun, Grant), BeginFault>
         requires spare { 2 ≤ self.old.spare }
         requires few { need_of self.old.history.version size ≤ 65535 }
+        requires order { MayBegin self.old.history who.session root }
         ensures row { Does self.old self.new who (Act.Begin root size) (A.begin_reply result) }
         ensures begun { IfOk result (λ p. (p.0.root ≡ root) × (p.0.size ≡ size)
             × IsBegun self.new p.0) }
@@ -111,7 +113,7 @@ impl<'t, S: Store> Volume<'t, S> {
 
     /// Ends an add that wasn't admitted, and frees the blocks that were claimed for it.
     pub fn retire_begun(&mut self, who: Who, begun: Begun, claimed: Claimed)
-        requires begun { IsBegun self.old begun }
+        requires begun { HasBegun self.old.history who.session begun }
         requires claimed { ClaimsFor self.old.space.claims claimed
             (need_of self.old.history.version begun.size) }
         ensures row { Does self.old self.new who (Act.Retire begun.root) (Some Reply.Retired) }
@@ -131,7 +133,7 @@ impl<'t, S: Store> Volume<'t, S> {
 
     /// Ends an add that was admitted, without a publication, and frees its blocks.
     pub fn retire(&mut self, who: Who, add: Admitted)
-        requires { IsAdmitted self.old add }
+        requires { HasAdmitted self.old.history who.session add }
         ensures row { Does self.old self.new who (Act.Retire add.root) (Some Reply.Retired) }
         ensures crash { IsSafe self.new }
     {

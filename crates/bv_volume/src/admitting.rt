@@ -12,10 +12,11 @@ ghost use Rattle.spec_core.specs.History.{last_state};
 ghost use Rattle.spec_core.specs.Room.{least_free};
 ghost use Rattle.spec_core.specs.State.{find};
 ghost use Rattle.spec_tree.specs.Tree.{need_of};
-ghost use Rattle.bv_volume.specs.Adding.{Admitting, ClaimsFor, Ending, IsAdmitted, IsBegun};
+ghost use Rattle.bv_volume.specs.Adding.{Admitting, ClaimsFor, Ending, IsAdmitted};
 ghost use Rattle.bv_volume.specs.Admitted.{HandsBoth, IsAnswer, IsGiven, IsNeedOf, TellsNodes, admit_reply};
 ghost use Rattle.bv_volume.specs.Events.{Does};
 ghost use Rattle.bv_volume.specs.Seen.{IsSafe};
+ghost use Rattle.bv_volume.specs.Sessions.{HasBegun};
 
 use crate::noting::note;
 use crate::replies::nodes_reply;
@@ -120,7 +121,7 @@ impl<'t, S: Store> Volume<'t, S> {
     /// Ends an add that is to be admitted, where a write or sync failed earlier.
     fn end_begun(&mut self, who: Who, begun: Begun, claimed: Claimed, fault: u64)
         requires spare { 1 ≤ self.old.spare }
-        requires begun { IsBegun self.old begun }
+        requires begun { HasBegun self.old.history who.session begun }
         requires claimed { ClaimsFor self.old.space.claims claimed
             (need_of self.old.history.version begun.size) }
         requires stopped { (last_state self.old.history self.old.next).stopped ≡ Some fault }
@@ -150,7 +151,7 @@ impl<'t, S: Store> Volume<'t, S> {
         claimed: Claimed,
     ) -> Result<Admitted, AdmitFault>
         requires spare { 1 ≤ self.old.spare }
-        requires begun { IsBegun self.old begun }
+        requires begun { HasBegun self.old.history who.session begun }
         requires claimed { ClaimsFor self.old.space.claims claimed
             (need_of self.old.history.version begun.size) }
         ensures row { Does self.old self.new who (Act.Admit begun.root) (admit_reply result) }

@@ -7,7 +7,7 @@ ghost use Rattle.spec_core.specs.State as C;
 ghost use Rattle.spec_tree.specs.Tree.{need_of, windows_of};
 ghost use Rattle.bv_fetch.specs.Windows.{HasRoom};
 ghost use Rattle.bv_volume.specs.Events.{Does};
-ghost use Rattle.bv_volume.specs.Fetched.{Fetches, HasFetched, fetch_reply as reply_of};
+ghost use Rattle.bv_volume.specs.Fetched.{Fetches, HasFetched, HoldsBlob, fetch_reply as reply_of};
 ghost use Rattle.bv_volume.specs.Seen.{IsSafe};
 
 use crate::noting::note;
@@ -133,6 +133,18 @@ impl<'t, S: Store> Volume<'t, S> {
             self.store.calls(),
         );
         Err(FetchFault::BadSlot)
+    }
+
+    /// The blob that the session's slot holds: its root and size.
+    pub fn held(&self, who: Who, slot: u32) -> Option<(Digest, u64)>
+        ensures some { IfSome result (λ p. HoldsBlob self.now (place_of who slot) p.0 p.1) }
+        ensures none { result ≡ None
+            → C.held (last_state self.now.history self.now.next).slots (place_of who slot) ≡ None }
+    {
+        match self.ledger.held_blob(who.place(slot)) {
+            Some((root, blob)) => Some((root, blob.size)),
+            None => None,
+        }
     }
 
     /// A window of the blob that the session's slot holds, cut to the blob's size, and its path, as

@@ -8,6 +8,7 @@ ghost use Rattle.bv_volume.specs.Adding.{IsAdmitted, Writes};
 ghost use Rattle.bv_volume.specs.Answers.{put_reply};
 ghost use Rattle.bv_volume.specs.Events.{Does};
 ghost use Rattle.bv_volume.specs.Seen.{IsSafe};
+ghost use Rattle.bv_volume.specs.Sessions.{HasAdmitted};
 
 use crate::device::put_store;
 use crate::noting::note;
@@ -46,7 +47,7 @@ impl<'t, S: Store> Volume<'t, S> {
     /// Writes the add's next block, while no write or sync has failed.
     fn put_now(&mut self, who: Who, add: &mut Admitted, block: &Block) -> Result<(), PutFault>
         requires spare { 1 ≤ self.old.spare }
-        requires add { IsAdmitted self.old add.old }
+        requires add { HasAdmitted self.old.history who.session add.old }
         requires next { add.old.put < need_of self.old.history.version add.old.size }
         requires going { (last_state self.old.history self.old.next).stopped ≡ None }
         ensures row { Does self.old self.new who (Act.Put add.old.put) (Some (put_reply result)) }
@@ -74,7 +75,7 @@ impl<'t, S: Store> Volume<'t, S> {
     /// Writes the add's next block, in the order of its blocks. On an `Err` no block more was put.
     pub fn put(&mut self, who: Who, add: &mut Admitted, block: &Block) -> Result<(), PutFault>
         requires spare { 1 ≤ self.old.spare }
-        requires add { IsAdmitted self.old add.old }
+        requires add { HasAdmitted self.old.history who.session add.old }
         requires next { add.old.put < need_of self.old.history.version add.old.size }
         ensures row { Does self.old self.new who (Act.Put add.old.put) (Some (put_reply result)) }
         ensures ok { OnOk result (add.new ≡ record add.old { put = add.old.put + 1 }) }

@@ -3,10 +3,10 @@
 ghost use Rattle.std.specs.Prelude.{◌≡◌, ◌≤◌, ◌<◌, ◌^◌, [], ℕ, length, None, Some};
 ghost use Rattle.spec_core.specs.History.{last_state};
 ghost use Rattle.bv_ledger.specs.Answers as A;
-ghost use Rattle.bv_volume.specs.Adding.{IsAdmitted, IsPut};
 ghost use Rattle.bv_volume.specs.Answers.{HandsBack, settle_reply};
 ghost use Rattle.bv_volume.specs.Events.{Does};
 ghost use Rattle.bv_volume.specs.Seen.{IsSafe};
+ghost use Rattle.bv_volume.specs.Sessions.{HasAdmitted, HasPut};
 ghost use Rattle.bv_volume.specs.Spaced.{Handed};
 
 use crate::device::commit_store;
@@ -71,8 +71,8 @@ impl<'t, S: Store> Volume<'t, S> {
     /// Purges the queue and publishes the add by one entry.
     fn publish(&mut self, alloc: Global, who: Who, add: Admitted) -> Result<(), SettleFault>
         requires spare { 1 ≤ self.old.spare }
-        requires add { IsAdmitted self.old add }
-        requires put { IsPut self.old add }
+        requires add { HasAdmitted self.old.history who.session add }
+        requires put { HasPut self.old who.session add }
         requires going { (last_state self.old.history self.old.next).stopped ≡ None }
         requires number { (last_state self.old.history self.old.next).next < 2 ^ 62 }
         ensures row { Does self.old self.new who (Act.Settle add.root) (settle_reply result) }
@@ -118,8 +118,8 @@ impl<'t, S: Store> Volume<'t, S> {
     /// Want of memory hands the add back; all else ends it.
     pub fn settle(&mut self, alloc: Global, who: Who, add: Admitted) -> Result<(), SettleFault>
         requires spare { 1 ≤ self.old.spare }
-        requires add { IsAdmitted self.old add }
-        requires put { IsPut self.old add }
+        requires add { HasAdmitted self.old.history who.session add }
+        requires put { HasPut self.old who.session add }
         ensures row { Does self.old self.new who (Act.Settle add.root) (settle_reply result) }
         ensures back { HandsBack result add }
         ensures crash { IsSafe self.new }

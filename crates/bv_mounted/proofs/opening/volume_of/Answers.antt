@@ -4,6 +4,7 @@ use Rattle.bv_claims.specs.Tokens.{block_count}
 use Rattle.bv_model.specs.Noted.{Noted}
 use Rattle.bv_mounted.specs.Mounts.{blocks_of_all, records_in}
 use Rattle.bv_mounted.proofs.OpenLemmas.{blobs_within, blobs_once, opening_same, opening_fits, opening_fresh}
+use Rattle.bv_mounted.proofs.ToldLemmas.{told_room}
 use Rattle.bv_mounted.proofs.opening.volume_of.Goals as goal
 
 pub space_of-space-requires-clause-within : goal.space_of-space-requires-clause-within
@@ -32,3 +33,7 @@ new-requires-clause-space g c =
     (subst (λ (rs : List BlobRecord). c.space_of-space.result.room + length (blocks_of_all rs) + 1 ≡ block_count c.space_of-space.result.claims) blobs
     (c.space_of-space.ensures.room ∙ sym (ap block_count c.space_of-space.ensures.claims)))
     c.space_of-space.ensures.none
+
+pub new-requires-clause-room : goal.new-requires-clause-room
+new-requires-clause-room g c =
+    told_room c.args.inspected c.args.opened (g.D.Device.seen c.args.dev) c.args.taken.ring c.store_of-store.result c.store_of-store.ensures.value (g.met.D.Device.told_blocks c.args.dev) c.requires.total

@@ -14,6 +14,12 @@ returns-in-Ok-clause-puts g c =
 pub returns-in-Ok-clause-wrote : goal.returns-in-Ok-clause-wrote
 returns-in-Ok-clause-wrote g c = λ none. grows_so _ _ _ _ (λ d more p. p.0) c.in-Ok.ensures.grows
 
+pub returns-in-Ok-clause-apart : goal.returns-in-Ok-clause-apart
+returns-in-Ok-clause-apart g c = grows_so _ _ _ _ (λ d more p. p.2) c.in-Ok.ensures.grows
+
+pub returns-in-Err-clause-apart : goal.returns-in-Err-clause-apart
+returns-in-Err-clause-apart g c = grows_so _ _ _ _ (λ d more p. p.2) c.in-Err.ensures.grows
+
 pub returns-in-Err-clause-puts : goal.returns-in-Err-clause-puts
 returns-in-Err-clause-puts g c =
     let e = c.in-Err.ensures in

@@ -5,6 +5,7 @@ use Rattle.bv_ledger.specs.Answers as A
 use Rattle.spec_tree.specs.Tree.{need_of}
 use Rattle.bv_volume.specs.Spaced.{Spaced}
 use Rattle.bv_volume.specs.declared.tokens.Begun.{Begun}
+use Rattle.bv_volume.proofs.SessionCalls.{ordered_begin}
 use Rattle.bv_volume.proofs.Adds.{begin_room, begin_same, begin_silent, is_begun, is_granted, no_space, same_claims, same_version, spaced_start}
 use Rattle.bv_volume.proofs.Silent.{CallDone, quiet_call}
 use Rattle.bv_volume.proofs.volume.Volume.begin.Goals as goal
@@ -24,7 +25,7 @@ done : (g : Over) (c : After-begun g) → CallDone c.self.inside.history c.note.
 done g c =
     let i = c.self.inside in
     quiet_call i.history c.note.new.history i.first i.ledger c.start-result.new.ledger i.space c.start-result.new.space (g.S.Store.seen i.store) (g.S.Store.both i.store) c.args.who (Begin c.args.root c.args.size) (A.begin_reply c.start-result.result)
-    (begin_same i.space c.start-result.new.space c.start-result.result c.start-result.ensures.err)
+    (begin_same i.ledger c.start-result.new.ledger i.space c.start-result.new.space c.args.root c.args.size c.start-result.result c.start-result.ensures.ok c.start-result.ensures.err)
     (rw (c.begin_reply-reply.ensures, c.calls.ensures) at c.note.ensures) c.self.invariant.0 c.start-result.ensures.row (begin_silent c.start-result.result)
     (begin_room i.history i.first i.ledger c.start-result.new.ledger (g.S.Store.seen i.store) (g.S.Store.both i.store) c.args.who c.args.root c.args.size (A.begin_reply c.start-result.result) c.self.invariant.0 c.start-result.ensures.row (rw (← c.self.view_is) at c.requires.spare))
     (g.met.S.Store.counted i.store)
@@ -35,7 +36,15 @@ spaced g c =
     spaced_start i.ledger c.start-result.new.ledger i.space (g.S.Store.seen i.store) (g.S.Store.held i.store) _ _ c.args.who c.args.root c.args.size c.self.invariant.0.accounts c.self.invariant.1 c.start-result.new.space c.start-result.result c.start-result.ensures.row c.start-result.ensures.ok c.start-result.ensures.err (subst (λ (k : ℕ). need_of k c.args.size ≤ 65535) (sym (same_version i.history i.first i.ledger (g.S.Store.seen i.store) (g.S.Store.both i.store) c.self.invariant.0)) (rw (← c.self.view_is) at c.requires.few))
 
 pub invariant_of-self : goal.invariant_of-self
-invariant_of-self g c = ((done g c).kept, spaced g c)
+invariant_of-self g c =
+    let i = c.self.inside in
+    let s = g.S.Store.seen i.store in
+    let e = c.start-result in (
+      (done g c).kept,
+      spaced g c,
+      ordered_begin i.history i.first i.ledger e.new.ledger i.space e.new.space s (g.S.Store.both i.store) c.args.who c.args.root c.args.size s.calls c.self.invariant.0 c.self.invariant.2 c.self.invariant.1.nodes (rw (← c.self.view_is) at c.requires.order)
+          c.note.new.history e.result (rw (c.begin_reply-reply.ensures, c.calls.ensures) at c.note.ensures) e.ensures.ok e.ensures.err,
+    )
 
 pub returns-clause-row : goal.returns-clause-row
 returns-clause-row g c = rw (← c.self.view_is, c.begun.ensures.reply) (done g c).does

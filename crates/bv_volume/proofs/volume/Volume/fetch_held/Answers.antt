@@ -1,4 +1,7 @@
-use Rattle.std.proofs.Common.{◌≤◌, ℕ, sym, subst, arith, List, suc}
+use Rattle.bv_store.specs.Stored.{Stored}
+use Rattle.bv_volume.specs.Sessions.{Ordered}
+use Rattle.bv_volume.proofs.SessionCalls.{by_any, ordered_silent}
+use Rattle.std.proofs.Common.{refl, ◌≤◌, ℕ, sym, subst, arith, List, suc}
 use Rattle.std.specs.Prelude.{All}
 use Rattle.spec_core.specs.Choice.{place_of}
 use Rattle.spec_core.specs.declared.act.Act.TheVariants.{Fetch}
@@ -54,8 +57,13 @@ done g c =
 
 pub invariant_of-self : goal.invariant_of-self
 invariant_of-self g c =
-    let i = c.self.inside in
-    ((done g c).kept, fetch_spaced i.ledger i.space (g.S.Store.seen i.store) (g.S.Store.seen c.read_from-answer.new.store) (g.S.Store.both i.store) (g.S.Store.both c.read_from-answer.new.store) (g.S.Store.held i.store) (g.S.Store.held c.read_from-answer.new.store) c.in-Ok.prepared.places.items c.args.blob c.args.window c.read_from-answer.result (read g c) c.self.invariant.1)
+    let i = c.self.inside in (
+      (done g c).kept,
+      fetch_spaced i.ledger i.space (g.S.Store.seen i.store) (g.S.Store.seen c.read_from-answer.new.store) (g.S.Store.both i.store) (g.S.Store.both c.read_from-answer.new.store) (g.S.Store.held i.store) (g.S.Store.held c.read_from-answer.new.store) c.in-Ok.prepared.places.items c.args.blob c.args.window c.read_from-answer.result (read g c) c.self.invariant.1,
+      subst (λ (x : Stored). Ordered c.note.new.history.history i.space x) (sym (read g c).rest)
+          (ordered_silent i.history c.note.new.history i.space (g.S.Store.seen i.store) c.args.who (Fetch c.args.slot c.args.window) (fetch_reply c.read_from-answer.result) (g.S.Store.seen c.read_from-answer.new.store).calls (rw (c.fetch_reply-reply.ensures, c.calls.ensures) at c.note.ensures)
+          (by_any (Fetch c.args.slot c.args.window) (fetch_reply c.read_from-answer.result) (λ x. record { order = λ add. tt; add = λ add. refl; puts = λ puts calls. refl; unput = λ who calls w. w.0 })) c.self.invariant.2),
+    )
 
 pub returns-clause-row : goal.returns-clause-row
 returns-clause-row g c = rw (← c.self.view_is) (done g c).does

@@ -1,4 +1,5 @@
-use Rattle.std.proofs.Common.{◌≡◌, ◌≤◌, ◌<◌, ◌^◌, ◌⊎◌, ℕ, List, Option, Some, None, IfSome, [], refl, ap, sym, ◌∙◌, subst, arith}
+use Rattle.std.proofs.Common.{true, refl, ◌≡◌, ◌≤◌, ◌<◌, ◌^◌, ◌⊎◌, ℕ, List, Option, Some, None, IfSome, [], refl, ap, sym, ◌∙◌, subst, arith, is_some}
+use Rattle.std.specs.Global.{Vec}
 use Rattle.spec_tree.specs.declared.Digest.{Digest}
 use Rattle.spec_tree.specs.declared.blob.Blob.{Blob}
 use Rattle.spec_core.specs.History.{last_state}
@@ -10,7 +11,9 @@ use Rattle.bv_space.specs.Owned.{Owned}
 use Rattle.bv_ledger.specs.Answers.{device_reply}
 use Rattle.bv_ledger.specs.Entries.{prepared}
 use Rattle.bv_ledger.specs.Tables.{Tables}
-use Rattle.bv_store.specs.Stored.{Stored, Entry}
+use Rattle.spec_core.specs.Log.{without}
+use Rattle.bv_store.specs.Stored.{Stored, Entry, Grows, SameData}
+use Rattle.bv_volume.specs.Sessions.{Ordered}
 use Rattle.bv_volume.specs.Adding.{IsAdmitted, IsPut}
 use Rattle.bv_volume.specs.Events.{Does}
 use Rattle.bv_volume.specs.Kept.{Kept, seen_of}
@@ -19,6 +22,7 @@ use Rattle.bv_volume.specs.Seen.{Seen}
 use Rattle.bv_volume.specs.Spaced.{Handed, Spaced}
 use Rattle.bv_volume.specs.declared.tokens.Admitted.{Admitted}
 use Rattle.bv_volume.specs.declared.volume.Volume.TheInside.{Inside}
+use Rattle.bv_volume.proofs.SessionCalls.{admitted_is, handed_adds, handed_claims, handed_nodes, ordered_ends, put_is}
 use Rattle.bv_volume.proofs.Freed.{are_taken, queue_lies, spaced_planned}
 use Rattle.bv_volume.proofs.Publishes.{can_write, entry, handed_spare, is_there, may, may_lie, planned, publish_call, publish_spaced, spaced_spare, taken_free}
 use Rattle.bv_volume.proofs.Silent.{CallDone}
@@ -44,21 +48,21 @@ pub prepare_entry-requires-clause-lies : goal.prepare_entry-requires-clause-lies
 prepare_entry-requires-clause-lies g c = λ r h.
     let i = c.self.inside in
     let s = g.S.Store.seen i.store in
-    let k = ready g i c.args.add c.self.invariant.0 (rw (← c.self.view_is) at c.requires.add) (rw (← c.self.view_is) at c.requires.going) (rw (← c.self.view_is) at c.requires.number) in
+    let k = ready g i c.args.add c.self.invariant.0 (admitted_is c.self.inside.history c.self.inside.first c.self.inside.ledger c.self.inside.space (g.S.Store.seen c.self.inside.store) (g.S.Store.both c.self.inside.store) c.args.who.session c.self.invariant.0 c.self.invariant.2 c.args.add (rw (← c.self.view_is) at c.requires.add)) (rw (← c.self.view_is) at c.requires.going) (rw (← c.self.view_is) at c.requires.number) in
     queue_lies i.history i.first i.ledger i.ledger i.space i.space s s (g.S.Store.both i.store) (g.S.Store.held i.store) (g.S.Store.held i.store) c.args.who c.self.invariant.0 c.self.invariant.1 k.going r h
 
 pub prepare_entry-requires-clause-publish : goal.prepare_entry-requires-clause-publish
 prepare_entry-requires-clause-publish g c =
     let i = c.self.inside in
     let s = g.S.Store.seen i.store in
-    let k = ready g i c.args.add c.self.invariant.0 (rw (← c.self.view_is) at c.requires.add) (rw (← c.self.view_is) at c.requires.going) (rw (← c.self.view_is) at c.requires.number) in
+    let k = ready g i c.args.add c.self.invariant.0 (admitted_is c.self.inside.history c.self.inside.first c.self.inside.ledger c.self.inside.space (g.S.Store.seen c.self.inside.store) (g.S.Store.both c.self.inside.store) c.args.who.session c.self.invariant.0 c.self.invariant.2 c.args.add (rw (← c.self.view_is) at c.requires.add)) (rw (← c.self.view_is) at c.requires.going) (rw (← c.self.view_is) at c.requires.number) in
     may i.history i.first i.ledger i.ledger i.space i.space s s s (g.S.Store.both i.store) (g.S.Store.both i.store) (g.S.Store.both i.store) (g.S.Store.held i.store) (g.S.Store.held i.store) (g.S.Store.held i.store) c.args.who c.self.invariant.0 c.self.invariant.1 c.args.add k.old k.going k.number
 
 pub prepare_entry-requires-clause-may : goal.prepare_entry-requires-clause-may
 prepare_entry-requires-clause-may g c =
     let i = c.self.inside in
     let s = g.S.Store.seen i.store in
-    let k = ready g i c.args.add c.self.invariant.0 (rw (← c.self.view_is) at c.requires.add) (rw (← c.self.view_is) at c.requires.going) (rw (← c.self.view_is) at c.requires.number) in
+    let k = ready g i c.args.add c.self.invariant.0 (admitted_is c.self.inside.history c.self.inside.first c.self.inside.ledger c.self.inside.space (g.S.Store.seen c.self.inside.store) (g.S.Store.both c.self.inside.store) c.args.who.session c.self.invariant.0 c.self.invariant.2 c.args.add (rw (← c.self.view_is) at c.requires.add)) (rw (← c.self.view_is) at c.requires.going) (rw (← c.self.view_is) at c.requires.number) in
     rw (k.old.has, c.setting.ensures) (may_lie i.history i.first i.ledger i.ledger i.space i.space s s s (g.S.Store.both i.store) (g.S.Store.both i.store) (g.S.Store.both i.store) (g.S.Store.held i.store) (g.S.Store.held i.store) (g.S.Store.held i.store) c.args.who c.self.invariant.0 c.self.invariant.1 c.args.add k.old k.going k.number)
 
 pub invariant_of-self : goal.invariant_of-self
@@ -72,6 +76,7 @@ invariant_of-self g c =
       subst (λ (t : Tables). Spaced t c.prepare_entry.new.space z (g.S.Store.held c.prepare_entry.new.store)) (sym e.0)
           (subst (λ (o : Owned). Spaced i.ledger o z (g.S.Store.held c.prepare_entry.new.store)) (sym c.in-Err.ensures.space)
           (spaced_spare i.ledger i.space c.prepare_entry.new.space.spare z (g.S.Store.held c.prepare_entry.new.store) (spaced_planned i.ledger i.space s z (g.S.Store.held i.store) (g.S.Store.held c.prepare_entry.new.store) x e.1.1 c.in-Err.ensures.held c.self.invariant.1))),
+      subst (λ (x : Owned). Ordered i.history.history x z) (sym c.in-Err.ensures.space) (subst (λ (y : Stored). Ordered i.history.history i.space y) (sym e.1.1) c.self.invariant.2),
     )
 
 -- what the memory was taken for
@@ -83,14 +88,14 @@ commit_store-failed-requires-clause-planned g c =
     let i = c.self.inside in
     let s = g.S.Store.seen i.store in
     let z = g.S.Store.seen c.prepare_entry.new.store in
-    let k = ready g i c.args.add c.self.invariant.0 (rw (← c.self.view_is) at c.requires.add) (rw (← c.self.view_is) at c.requires.going) (rw (← c.self.view_is) at c.requires.number) in
+    let k = ready g i c.args.add c.self.invariant.0 (admitted_is c.self.inside.history c.self.inside.first c.self.inside.ledger c.self.inside.space (g.S.Store.seen c.self.inside.store) (g.S.Store.both c.self.inside.store) c.args.who.session c.self.invariant.0 c.self.invariant.2 c.args.add (rw (← c.self.view_is) at c.requires.add)) (rw (← c.self.view_is) at c.requires.going) (rw (← c.self.view_is) at c.requires.number) in
     let p = plan_of g i c.args.add k z c.setting.result c.setting.ensures c.in-Ok.ensures.planned in
     let B = g.S.Store.both i.store in
     let H = g.S.Store.held i.store in (
       entry i.history i.first i.ledger i.ledger i.space i.space s z z B (g.S.Store.both c.prepare_entry.new.store) B H (g.S.Store.held c.prepare_entry.new.store) H c.args.who c.self.invariant.0 c.self.invariant.1 c.args.add k.old k.going k.number p c.in-Ok.ensures.both c.in-Ok.ensures.held,
       planned i.history i.first i.ledger i.ledger i.space i.space s z z B (g.S.Store.both c.prepare_entry.new.store) B H (g.S.Store.held c.prepare_entry.new.store) H c.args.who c.self.invariant.0 c.self.invariant.1 c.args.add k.old k.going k.number p c.in-Ok.ensures.both c.in-Ok.ensures.held,
       can_write i.history i.first i.ledger i.ledger i.space i.space s z z B (g.S.Store.both c.prepare_entry.new.store) B H (g.S.Store.held c.prepare_entry.new.store) H c.args.who c.self.invariant.0 c.self.invariant.1 c.args.add k.old k.going k.number p c.in-Ok.ensures.both c.in-Ok.ensures.held,
-      is_there i.history i.first i.ledger i.ledger i.space i.space s z z B (g.S.Store.both c.prepare_entry.new.store) B H (g.S.Store.held c.prepare_entry.new.store) H c.args.who c.self.invariant.0 c.self.invariant.1 c.args.add k.old k.going k.number p c.in-Ok.ensures.both c.in-Ok.ensures.held (rw (← c.self.view_is) at c.requires.put),
+      is_there i.history i.first i.ledger i.ledger i.space i.space s z z B (g.S.Store.both c.prepare_entry.new.store) B H (g.S.Store.held c.prepare_entry.new.store) H c.args.who c.self.invariant.0 c.self.invariant.1 c.args.add k.old k.going k.number p c.in-Ok.ensures.both c.in-Ok.ensures.held (put_is i.history i.first i.ledger i.space s B c.args.who.session c.self.invariant.0 c.self.invariant.2 c.args.add (rw (← c.self.view_is) at c.requires.add) (rw (← c.self.view_is) at c.requires.put)),
       taken_free i.history i.first i.ledger i.ledger i.space i.space s z z B (g.S.Store.both c.prepare_entry.new.store) B H (g.S.Store.held c.prepare_entry.new.store) H c.args.who c.self.invariant.0 c.self.invariant.1 c.args.add k.old k.going k.number p c.in-Ok.ensures.both c.in-Ok.ensures.held,
     )
 
@@ -98,7 +103,7 @@ pub settled-requires : goal.settled-requires
 settled-requires g c =
     let i = c.self.inside in
     let s = g.S.Store.seen i.store in
-    let k = ready g i c.args.add c.self.invariant.0 (rw (← c.self.view_is) at c.requires.add) (rw (← c.self.view_is) at c.requires.going) (rw (← c.self.view_is) at c.requires.number) in
+    let k = ready g i c.args.add c.self.invariant.0 (admitted_is c.self.inside.history c.self.inside.first c.self.inside.ledger c.self.inside.space (g.S.Store.seen c.self.inside.store) (g.S.Store.both c.self.inside.store) c.args.who.session c.self.invariant.0 c.self.invariant.2 c.args.add (rw (← c.self.view_is) at c.requires.add)) (rw (← c.self.view_is) at c.requires.going) (rw (← c.self.view_is) at c.requires.number) in
     (i.ledger, may i.history i.first i.ledger i.ledger i.space i.space s s s (g.S.Store.both i.store) (g.S.Store.both i.store) (g.S.Store.both i.store) (g.S.Store.held i.store) (g.S.Store.held i.store) (g.S.Store.held i.store) c.args.who c.self.invariant.0 c.self.invariant.1 c.args.add k.old k.going k.number, c.in-Ok.ensures.ledger)
 
 done : (g : Over) (c : After-drop-purged g) → CallDone c.self.inside.history c.note.new.history c.self.inside.first c.self.inside.ledger c.settled.new.self c.self.inside.space c.hand_over.new.space (g.S.Store.seen c.prepare_entry.new.store) (g.S.Store.seen c.commit_store-failed.new.store) (g.S.Store.both c.commit_store-failed.new.store) c.args.who (Settle c.args.add.root) (Some (device_reply Published c.commit_store-failed.result))
@@ -107,7 +112,7 @@ done g c =
     let s = g.S.Store.seen i.store in
     let z = g.S.Store.seen c.prepare_entry.new.store in
     let w = g.S.Store.seen c.commit_store-failed.new.store in
-    let k = ready g i c.args.add c.self.invariant.0 (rw (← c.self.view_is) at c.requires.add) (rw (← c.self.view_is) at c.requires.going) (rw (← c.self.view_is) at c.requires.number) in
+    let k = ready g i c.args.add c.self.invariant.0 (admitted_is c.self.inside.history c.self.inside.first c.self.inside.ledger c.self.inside.space (g.S.Store.seen c.self.inside.store) (g.S.Store.both c.self.inside.store) c.args.who.session c.self.invariant.0 c.self.invariant.2 c.args.add (rw (← c.self.view_is) at c.requires.add)) (rw (← c.self.view_is) at c.requires.going) (rw (← c.self.view_is) at c.requires.number) in
     let p = plan_of g i c.args.add k z c.setting.result c.setting.ensures c.in-Ok.ensures.planned in
     let B = g.S.Store.both i.store in
     let M = g.S.Store.both c.prepare_entry.new.store in
@@ -119,6 +124,7 @@ done g c =
     let is = planned i.history i.first i.ledger i.ledger i.space i.space s z w B M N H I J c.args.who c.self.invariant.0 c.self.invariant.1 c.args.add k.old k.going k.number p c.in-Ok.ensures.both c.in-Ok.ensures.held in
     let spare = (rw (← c.self.view_is) at c.requires.spare) in
     publish_call i.history i.first i.ledger c.settled.new.self i.space c.hand_over.new.space s z w B M N H I J c.args.who c.self.invariant.0 c.self.invariant.1 c.args.add k.old k.going k.number p c.in-Ok.ensures.both c.in-Ok.ensures.held
+    (handed_claims c.prepare_entry.new.space c.hand_over.new.space c.args.add.root _ c.commit_store-failed.result c.hand_over.ensures.done c.hand_over.ensures.kept ∙ ap (λ (x : Owned). x.claims) c.in-Ok.ensures.space)
     (g.met.S.Store.counted c.commit_store-failed.new.store) (g.met.S.Store.both_holds c.commit_store-failed.new.store) (omega (arith, spare)) c.commit_store-failed.result c.note.new.history
     (rw (c.device_reply-reply.ensures, c.calls.ensures) at c.note.ensures) (c.settled.ensures i.ledger its c.in-Ok.ensures.ledger) (rw is at c.commit_store-failed.ensures.enters)
 
@@ -128,7 +134,7 @@ spaced g c =
     let s = g.S.Store.seen i.store in
     let z = g.S.Store.seen c.prepare_entry.new.store in
     let w = g.S.Store.seen c.commit_store-failed.new.store in
-    let k = ready g i c.args.add c.self.invariant.0 (rw (← c.self.view_is) at c.requires.add) (rw (← c.self.view_is) at c.requires.going) (rw (← c.self.view_is) at c.requires.number) in
+    let k = ready g i c.args.add c.self.invariant.0 (admitted_is c.self.inside.history c.self.inside.first c.self.inside.ledger c.self.inside.space (g.S.Store.seen c.self.inside.store) (g.S.Store.both c.self.inside.store) c.args.who.session c.self.invariant.0 c.self.invariant.2 c.args.add (rw (← c.self.view_is) at c.requires.add)) (rw (← c.self.view_is) at c.requires.going) (rw (← c.self.view_is) at c.requires.number) in
     let p = plan_of g i c.args.add k z c.setting.result c.setting.ensures c.in-Ok.ensures.planned in
     let B = g.S.Store.both i.store in
     let M = g.S.Store.both c.prepare_entry.new.store in
@@ -150,12 +156,32 @@ spaced g c =
     (λ ok. unspared c.in-Ok.purged.items (over ok)) (λ f failed. unspared [] (c.hand_over.ensures.kept f failed))
 
 pub invariant_of-self-2 : goal.invariant_of-self-2
-invariant_of-self-2 g c = ((done g c).kept, spaced g c)
+invariant_of-self-2 g c =
+    let i = c.self.inside in
+    let s = g.S.Store.seen i.store in
+    let z = g.S.Store.seen c.prepare_entry.new.store in
+    let e = c.commit_store-failed in
+    let w = g.S.Store.seen e.new.store in
+    let B = g.S.Store.both i.store in
+    let f = c.hand_over in
+    let a = c.args.add in
+    let k = ready g i a c.self.invariant.0 (admitted_is i.history i.first i.ledger i.space s (g.S.Store.both i.store) c.args.who.session c.self.invariant.0 c.self.invariant.2 a (rw (← c.self.view_is) at c.requires.add)) (rw (← c.self.view_is) at c.requires.going) (rw (← c.self.view_is) at c.requires.number) in
+    let p = plan_of g i a k z c.setting.result c.setting.ensures c.in-Ok.ensures.planned in
+    let is = ap (λ (x : Stored). x.planned) p.is in
+    let enters = rw is at e.ensures.enters in (
+      (done g c).kept,
+      spaced g c,
+      ordered_ends i.history i.first i.ledger i.space s (g.S.Store.both i.store) c.args.who.session c.self.invariant.0 c.self.invariant.2 c.note.new.history f.new.space w c.args.who (Settle a.root) (device_reply Published e.result) w.calls (record { root = a.root; size = a.size; admitted = true; puts = a.put }) refl (rw (← c.self.view_is) at c.requires.add)
+          (rw (c.device_reply-reply.ensures, c.calls.ensures) at c.note.ensures) (enters.moves.geometry ∙ ap (λ (x : Stored). x.geometry) p.is) refl (λ w. w.0) refl
+          (handed_adds c.prepare_entry.new.space f.new.space a.root _ e.result f.ensures.done f.ensures.kept ∙ ap (λ (x : Owned). without x.adds a.root) c.in-Ok.ensures.space)
+          (handed_nodes c.prepare_entry.new.space f.new.space a.root _ e.result f.ensures.done f.ensures.kept ∙ ap (λ (x : Owned). without x.nodes a.root) c.in-Ok.ensures.space)
+          (subst (λ (x : Stored). Grows x.told w.told (λ d more. SameData x.geometry d more)) p.is e.ensures.same),
+    )
 
 pub returns-clause-row : goal.returns-clause-row
 returns-clause-row g c =
     let i = c.self.inside in
-    let k = ready g i c.args.add c.self.invariant.0 (rw (← c.self.view_is) at c.requires.add) (rw (← c.self.view_is) at c.requires.going) (rw (← c.self.view_is) at c.requires.number) in
+    let k = ready g i c.args.add c.self.invariant.0 (admitted_is c.self.inside.history c.self.inside.first c.self.inside.ledger c.self.inside.space (g.S.Store.seen c.self.inside.store) (g.S.Store.both c.self.inside.store) c.args.who.session c.self.invariant.0 c.self.invariant.2 c.args.add (rw (← c.self.view_is) at c.requires.add)) (rw (← c.self.view_is) at c.requires.going) (rw (← c.self.view_is) at c.requires.number) in
     let p = plan_of g i c.args.add k (g.S.Store.seen c.prepare_entry.new.store) c.setting.result c.setting.ensures c.in-Ok.ensures.planned in
     rw (← c.self.view_is, c.settle_answer.ensures)
     (subst (λ (v : Seen). Does v (seen_of c.note.new.history i.first c.settled.new.self c.hand_over.new.space (g.S.Store.seen c.commit_store-failed.new.store)) c.args.who (Settle c.args.add.root) (Some (device_reply Published c.commit_store-failed.result)))
@@ -163,3 +189,19 @@ returns-clause-row g c =
 
 pub returns-clause-crash : goal.returns-clause-crash
 returns-clause-crash g c = (done g c).safe
+
+pub prepare_entry-requires-clause-has : goal.prepare_entry-requires-clause-has
+prepare_entry-requires-clause-has g c =
+    let i = c.self.inside in
+    let s = g.S.Store.seen i.store in
+    let k = ready g i c.args.add c.self.invariant.0 (admitted_is i.history i.first i.ledger i.space s (g.S.Store.both i.store) c.args.who.session c.self.invariant.0 c.self.invariant.2 c.args.add (rw (← c.self.view_is) at c.requires.add)) (rw (← c.self.view_is) at c.requires.going) (rw (← c.self.view_is) at c.requires.number) in
+    ap (λ (x : Option (Vec ℕ)). is_some x) k.old.has
+
+pub commit_store-failed-requires-clause-number : goal.commit_store-failed-requires-clause-number
+commit_store-failed-requires-clause-number g c =
+    let i = c.self.inside in
+    let s = g.S.Store.seen i.store in
+    let z = g.S.Store.seen c.prepare_entry.new.store in
+    let k = ready g i c.args.add c.self.invariant.0 (admitted_is i.history i.first i.ledger i.space s (g.S.Store.both i.store) c.args.who.session c.self.invariant.0 c.self.invariant.2 c.args.add (rw (← c.self.view_is) at c.requires.add)) (rw (← c.self.view_is) at c.requires.going) (rw (← c.self.view_is) at c.requires.number) in
+    let p = plan_of g i c.args.add k z c.setting.result c.setting.ensures c.in-Ok.ensures.planned in
+    omega (arith, k.number, ap (λ (x : Stored). x.number) p.is, c.self.invariant.0.number k.going)

@@ -1,3 +1,4 @@
+use Rattle.spec_session.specs.Own.{new_add}
 use Rattle.std.proofs.Common.{◌≡◌, ◌≤◌, ◌+◌, ℕ, Some, refl, ap, sym, ◌∙◌, subst, arith}
 use Rattle.spec_tree.specs.Tree.{need_of}
 use Rattle.spec_core.specs.State.{find}
@@ -8,6 +9,7 @@ use Rattle.bv_claims.specs.Blocks.{times}
 use Rattle.bv_volume.specs.Adding.{IsBegun, IsAdmitted}
 use Rattle.bv_volume.specs.Kept.{seen_of}
 use Rattle.bv_volume.specs.Spaced.{Spaced}
+use Rattle.bv_volume.proofs.SessionCalls.{begun_is, ordered_ended}
 use Rattle.bv_volume.proofs.Adds.{Ends, add_is_part, adds_are_sole, adds_less, end_room, length_less, same_version, spaced_ends, tabled_add}
 use Rattle.bv_volume.proofs.Silent.{CallDone, quiet_call}
 use Rattle.bv_volume.proofs.Still.{still}
@@ -18,17 +20,17 @@ use Rattle.bv_volume.proofs.volume.Volume.retire_begun.Given.{Over}
 pub note-requires : goal.note-requires
 note-requires g c =
     let i = c.self.inside in
-    let b : IsBegun (seen_of i.history i.first i.ledger i.space (g.S.Store.seen i.store)) c.args.begun = rw (← c.self.view_is) at c.requires.begun in
+    let b : IsBegun (seen_of i.history i.first i.ledger i.space (g.S.Store.seen i.store)) c.args.begun = begun_is c.self.inside.history c.self.inside.first c.self.inside.ledger c.self.inside.space (g.S.Store.seen c.self.inside.store) (g.S.Store.both c.self.inside.store) c.args.who.session c.self.invariant.0 c.self.invariant.2 c.args.begun (rw (← c.self.view_is) at c.requires.begun) in
     omega (arith, c.self.invariant.0.apart, length_less i.ledger.adds c.args.begun.root c.args.begun.size (tabled_add i.history i.first i.ledger (g.S.Store.seen i.store) (g.S.Store.both i.store) c.self.invariant.0 c.args.begun.root c.args.begun.size b.under_way))
 
 done : (g : Over) (c : After-note g) → CallDone c.self.inside.history c.note.new.history c.self.inside.first c.self.inside.ledger c.retire.new.self c.self.inside.space c.give_back.new.self (g.S.Store.seen c.self.inside.store) (g.S.Store.seen c.self.inside.store) (g.S.Store.both c.self.inside.store) c.args.who (Retire c.args.begun.root) (Some Retired)
 done g c =
     let i = c.self.inside in
     let s = g.S.Store.seen i.store in
-    let b : IsBegun (seen_of i.history i.first i.ledger i.space s) c.args.begun = rw (← c.self.view_is) at c.requires.begun in
+    let b : IsBegun (seen_of i.history i.first i.ledger i.space s) c.args.begun = begun_is c.self.inside.history c.self.inside.first c.self.inside.ledger c.self.inside.space (g.S.Store.seen c.self.inside.store) (g.S.Store.both c.self.inside.store) c.args.who.session c.self.invariant.0 c.self.invariant.2 c.args.begun (rw (← c.self.view_is) at c.requires.begun) in
     let under = tabled_add i.history i.first i.ledger s (g.S.Store.both i.store) c.self.invariant.0 c.args.begun.root c.args.begun.size b.under_way in
     let adds = adds_less i.ledger c.retire.new.self _ _ c.args.who c.args.begun.root c.self.invariant.0.accounts c.retire.ensures in
-    quiet_call i.history c.note.new.history i.first i.ledger c.retire.new.self i.space c.give_back.new.self s (g.S.Store.both i.store) c.args.who (Retire c.args.begun.root) (Some Retired) tt
+    quiet_call i.history c.note.new.history i.first i.ledger c.retire.new.self i.space c.give_back.new.self s (g.S.Store.both i.store) c.args.who (Retire c.args.begun.root) (Some Retired) c.give_back.ensures.claims
     (rw (c.calls.ensures) at c.note.ensures) c.self.invariant.0 c.retire.ensures (refl, refl)
     (end_room i.history i.first i.ledger c.retire.new.self s (g.S.Store.both i.store) c.args.begun.root c.args.begun.size c.self.invariant.0 adds under) (g.met.S.Store.counted i.store)
 
@@ -36,7 +38,7 @@ spaced : (g : Over) (c : After-note g) → Spaced c.retire.new.self c.give_back.
 spaced g c =
     let i = c.self.inside in
     let s = g.S.Store.seen i.store in
-    let b : IsBegun (seen_of i.history i.first i.ledger i.space s) c.args.begun = rw (← c.self.view_is) at c.requires.begun in
+    let b : IsBegun (seen_of i.history i.first i.ledger i.space s) c.args.begun = begun_is c.self.inside.history c.self.inside.first c.self.inside.ledger c.self.inside.space (g.S.Store.seen c.self.inside.store) (g.S.Store.both c.self.inside.store) c.args.who.session c.self.invariant.0 c.self.invariant.2 c.args.begun (rw (← c.self.view_is) at c.requires.begun) in
     let under = tabled_add i.history i.first i.ledger s (g.S.Store.both i.store) c.self.invariant.0 c.args.begun.root c.args.begun.size b.under_way in
     let version = same_version i.history i.first i.ledger s (g.S.Store.both i.store) c.self.invariant.0 in
     let e = c.give_back.ensures in
@@ -56,7 +58,13 @@ spaced g c =
     (adds_are_sole i.history i.first i.ledger s (g.S.Store.both i.store) c.self.invariant.0) ends c.self.invariant.1
 
 pub invariant_of-self : goal.invariant_of-self
-invariant_of-self g c = ((done g c).kept, spaced g c)
+invariant_of-self g c =
+    let i = c.self.inside in
+    let s = g.S.Store.seen i.store in (
+      (done g c).kept,
+      spaced g c,
+      ordered_ended i.history i.first i.ledger i.space s (g.S.Store.both i.store) c.args.who.session c.self.invariant.0 c.self.invariant.2 c.note.new.history c.give_back.new.self c.args.who (Retire c.args.begun.root) (Retired) s.calls (new_add c.args.begun.root c.args.begun.size) refl (rw (← c.self.view_is) at c.requires.begun) (rw (c.calls.ensures) at c.note.ensures) refl (λ w. w.0) refl c.give_back.ensures.adds c.give_back.ensures.nodes,
+    )
 
 pub returns-clause-row : goal.returns-clause-row
 returns-clause-row g c = rw (← c.self.view_is) (done g c).does

@@ -1,4 +1,4 @@
-use Rattle.std.proofs.Common.{◌≡◌, ◌≤◌, ◌+◌, ℕ, Some, refl, ap, sym, ◌∙◌, subst, arith}
+use Rattle.std.proofs.Common.{true, ◌≡◌, ◌≤◌, ◌+◌, ℕ, Some, refl, ap, sym, ◌∙◌, subst, arith, Option, is_some}
 use Rattle.spec_tree.specs.Tree.{need_of}
 use Rattle.spec_core.specs.State.{find}
 use Rattle.spec_core.specs.declared.act.Act.TheVariants.{Settle}
@@ -8,6 +8,7 @@ use Rattle.bv_claims.specs.Blocks.{times}
 use Rattle.bv_volume.specs.Adding.{IsBegun, IsAdmitted}
 use Rattle.bv_volume.specs.Kept.{seen_of}
 use Rattle.bv_volume.specs.Spaced.{Spaced}
+use Rattle.bv_volume.proofs.SessionCalls.{admitted_is, ordered_ended}
 use Rattle.bv_volume.proofs.Adds.{Ends, add_is_part, adds_are_sole, settle_less, end_room, same_version, spaced_ends, tabled_add}
 use Rattle.bv_volume.proofs.Quiet.{silent_quiet}
 use Rattle.bv_volume.proofs.Silent.{CallDone, quiet_call, refusal_silent}
@@ -20,10 +21,10 @@ done : (g : Over) (c : After-settle_refusal g) → CallDone c.self.inside.histor
 done g c =
     let i = c.self.inside in
     let s = g.S.Store.seen i.store in
-    let b : IsAdmitted (seen_of i.history i.first i.ledger i.space s) c.args.add = rw (← c.self.view_is) at c.requires.add in
+    let b : IsAdmitted (seen_of i.history i.first i.ledger i.space s) c.args.add = admitted_is c.self.inside.history c.self.inside.first c.self.inside.ledger c.self.inside.space (g.S.Store.seen c.self.inside.store) (g.S.Store.both c.self.inside.store) c.args.who.session c.self.invariant.0 c.self.invariant.2 c.args.add (rw (← c.self.view_is) at c.requires.add) in
     let under = tabled_add i.history i.first i.ledger s (g.S.Store.both i.store) c.self.invariant.0 c.args.add.root c.args.add.size b.under_way in
     let adds = settle_less i.ledger c.settle_refused.new.self _ _ c.args.who c.args.add.root c.in-Some.refusal c.self.invariant.0.accounts c.in-Some.ensures.refused in
-    quiet_call i.history c.note.new.history i.first i.ledger c.settle_refused.new.self i.space c.retire.new.self s (g.S.Store.both i.store) c.args.who (Settle c.args.add.root) (Some (refusal_reply c.in-Some.refusal)) tt
+    quiet_call i.history c.note.new.history i.first i.ledger c.settle_refused.new.self i.space c.retire.new.self s (g.S.Store.both i.store) c.args.who (Settle c.args.add.root) (Some (refusal_reply c.in-Some.refusal)) c.retire.ensures.claims
     (rw (c.refusal_reply-reply.ensures, c.calls.ensures) at c.note.ensures) c.self.invariant.0 c.in-Some.ensures.refused (refusal_silent c.in-Some.refusal)
     (end_room i.history i.first i.ledger c.settle_refused.new.self s (g.S.Store.both i.store) c.args.add.root c.args.add.size c.self.invariant.0 adds under) (g.met.S.Store.counted i.store)
 
@@ -31,7 +32,7 @@ spaced : (g : Over) (c : After-settle_refusal g) → Spaced c.settle_refused.new
 spaced g c =
     let i = c.self.inside in
     let s = g.S.Store.seen i.store in
-    let b : IsAdmitted (seen_of i.history i.first i.ledger i.space s) c.args.add = rw (← c.self.view_is) at c.requires.add in
+    let b : IsAdmitted (seen_of i.history i.first i.ledger i.space s) c.args.add = admitted_is c.self.inside.history c.self.inside.first c.self.inside.ledger c.self.inside.space (g.S.Store.seen c.self.inside.store) (g.S.Store.both c.self.inside.store) c.args.who.session c.self.invariant.0 c.self.invariant.2 c.args.add (rw (← c.self.view_is) at c.requires.add) in
     let under = tabled_add i.history i.first i.ledger s (g.S.Store.both i.store) c.self.invariant.0 c.args.add.root c.args.add.size b.under_way in
     let version = same_version i.history i.first i.ledger s (g.S.Store.both i.store) c.self.invariant.0 in
     let e = c.retire.ensures in
@@ -52,7 +53,13 @@ spaced g c =
     (adds_are_sole i.history i.first i.ledger s (g.S.Store.both i.store) c.self.invariant.0) ends c.self.invariant.1
 
 pub invariant_of-self : goal.invariant_of-self
-invariant_of-self g c = ((done g c).kept, spaced g c)
+invariant_of-self g c =
+    let i = c.self.inside in
+    let s = g.S.Store.seen i.store in (
+      (done g c).kept,
+      spaced g c,
+      ordered_ended i.history i.first i.ledger i.space s (g.S.Store.both i.store) c.args.who.session c.self.invariant.0 c.self.invariant.2 c.note.new.history c.retire.new.self c.args.who (Settle c.args.add.root) (refusal_reply c.in-Some.refusal) s.calls (record { root = c.args.add.root; size = c.args.add.size; admitted = true; puts = c.args.add.put }) refl (rw (← c.self.view_is) at c.requires.add) (rw (c.refusal_reply-reply.ensures, c.calls.ensures) at c.note.ensures) refl (λ w. w.0) refl c.retire.ensures.adds c.retire.ensures.nodes,
+    )
 
 pub returns-in-Some-clause-row : goal.returns-in-Some-clause-row
 returns-in-Some-clause-row g c = rw (← c.self.view_is, c.settle_refusal.ensures) (done g c).does
@@ -63,5 +70,12 @@ returns-in-Some-clause-crash g c = (done g c).safe
 pub retire-requires : goal.retire-requires
 retire-requires g c =
     let i = c.self.inside in
-    let b : IsAdmitted (seen_of i.history i.first i.ledger i.space (g.S.Store.seen i.store)) c.args.add = rw (← c.self.view_is) at c.requires.add in
+    let b : IsAdmitted (seen_of i.history i.first i.ledger i.space (g.S.Store.seen i.store)) c.args.add = admitted_is c.self.inside.history c.self.inside.first c.self.inside.ledger c.self.inside.space (g.S.Store.seen c.self.inside.store) (g.S.Store.both c.self.inside.store) c.args.who.session c.self.invariant.0 c.self.invariant.2 c.args.add (rw (← c.self.view_is) at c.requires.add) in
     rw (b.has) (add_is_part i.ledger i.space (g.S.Store.seen i.store) (g.S.Store.held i.store) c.args.add.root b.blocks b.has c.self.invariant.1)
+
+pub settle_refused-requires : goal.settle_refused-requires
+settle_refused-requires g c =
+    let i = c.self.inside in
+    let s = g.S.Store.seen i.store in
+    let b : IsAdmitted (seen_of i.history i.first i.ledger i.space s) c.args.add = admitted_is i.history i.first i.ledger i.space s (g.S.Store.both i.store) c.args.who.session c.self.invariant.0 c.self.invariant.2 c.args.add (rw (← c.self.view_is) at c.requires.add) in
+    ap (λ (x : Option ℕ). is_some x) (tabled_add i.history i.first i.ledger s (g.S.Store.both i.store) c.self.invariant.0 c.args.add.root c.args.add.size b.under_way)
