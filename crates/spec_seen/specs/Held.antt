@@ -1,0 +1,23 @@
+-- Who published a blob that a slot holds (this project's profile).
+use Rattle.std.specs.Prelude.{◌≡◌, ℕ, List, ◌++◌, None, Some, All}
+use Rattle.spec_tree.specs.declared.Digest.{Digest}
+use Rattle.spec_core.specs.History.{History, Legal, last_state}
+use Rattle.spec_core.specs.Laws.{Empties}
+use Rattle.spec_core.specs.State.{held}
+use Rattle.spec_core.specs.declared.event.CoreEvent.{CoreEvent}
+use Rattle.spec_core.specs.declared.place.Place.{Place}
+use Rattle.spec_served.specs.Places.{publisher}
+
+-- a history up to some moment
+abbrev pub up_to : History → List CoreEvent → History
+up_to h events = record h { events = events }
+
+-- While a slot holds a root, nobody publishes it: who did so last stays the same. So the lines of a
+-- session that holds a blob speak of the same blocks of it, whenever they fetch.
+abbrev pub HeldBlobsStayPublished : Type 0
+HeldBlobsStayPublished =
+    (h : History) (next : ℕ) (before more : List CoreEvent) (p : Place) (r : Digest)
+    → Legal (up_to h (before ++ more)) next
+    → held (last_state (up_to h before) next).slots p ≡ Some r
+    → All (λ e. ¬ Empties p e.who e.act) more
+    → publisher r None (before ++ more) ≡ publisher r None before

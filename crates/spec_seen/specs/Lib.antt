@@ -1,0 +1,3 @@
+-- What the results of lines say of a device, by the pages that they came of.
+pub mod Held
+pub mod Pages

@@ -1,0 +1,14 @@
+//! Laws of the definitions: what each function here ensures holds of all values.
+
+ghost use Rattle.spec_seen.specs.Held.{HeldBlobsStayPublished};
+ghost use Rattle.spec_seen.specs.Pages.{PagesShow};
+
+/// A line whose result came of pages as the device has them says of the device what it should.
+pub fn pages_of_the_device_show_what_it_has()
+    ensures { PagesShow }
+{}
+
+/// While a slot holds a root, who published it last stays the same.
+pub fn a_held_blob_stays_published()
+    ensures { HeldBlobsStayPublished }
+{}

@@ -1,0 +1,4 @@
+//! What the results of lines say of a device, by the pages that they came of.
+#![tactic(auto)]
+
+pub mod laws;
