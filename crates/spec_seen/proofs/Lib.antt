@@ -1,3 +1,4 @@
+pub mod ByLineLemmas
 pub mod CutLemmas
 pub mod HeldLemmas
 pub mod PageLemmas

@@ -1,5 +1,5 @@
--- How a line's result came of the pages of its blob, as the device has them when the line's own event
--- ends (this project's profile).
+-- How a line's result came of the pages of its blob, as the device has them when the line's own
+-- event ends (this project's profile).
 --
 -- `base` is the disk when the mount began, `told` are the device's events since, and `h` is the
 -- history; `at` is the line.

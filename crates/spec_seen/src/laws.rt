@@ -1,5 +1,6 @@
 //! Laws of the definitions: what each function here ensures holds of all values.
 
+ghost use Rattle.spec_seen.specs.ByLine.{LinesAddOnce};
 ghost use Rattle.spec_seen.specs.Held.{HeldBlobsStayPublished};
 ghost use Rattle.spec_seen.specs.Pages.{PagesShow};
 
@@ -11,4 +12,10 @@ pub fn pages_of_the_device_show_what_it_has()
 /// While a slot holds a root, who published it last stays the same.
 pub fn a_held_blob_stays_published()
     ensures { HeldBlobsStayPublished }
+{}
+
+/// Each line of a lawful script adds one blob at most: it puts before it publishes, and publishes
+/// what it has put.
+pub fn lines_add_one_blob_at_most()
+    ensures { LinesAddOnce }
 {}
