@@ -1,0 +1,158 @@
+"""`list` and `recover` over a ring full of entries, beside SQLite's first query and checkpoint over a
+WAL of as many bytes, interleaved, best of five, at two sizes that show the growth.
+
+An entry has three payloads, as that of a small add: superblock, bitmap, and one of 128 blocks of the
+node map. `list` reads and checks every entry and surveys the metadata; with the time of an empty ring
+taken off it is the scan. `recover` does the same, and writes the metadata in place. Ours are whole
+processes, SQLite's are calls within one. MB/s are 10^6 bytes of the ring a second. A ratio is SQLite's
+time to ours, each per byte. zlib's CRC-32 over the ring, beside it, is about what checking entries
+costs at least; `bench/crc32.py` has ours.
+"""
+import pathlib
+import shutil
+import sqlite3
+import sys
+import tempfile
+import time
+import zlib
+
+from measure import TOP, blobfs, most_memory, table, timed
+
+sys.path.insert(0, str(TOP / "scripts"))
+from volume import entry, info_block, metadata  # noqa: E402
+
+BLOCK = 8192
+BLOCKS, NODES = 65536, 16384
+RUNS = 5
+SIZES = [4096, 65536]
+
+
+def write_image(path, journal, is_full):
+    """An empty volume of version 1 whose ring has as many entries as fit, or none. Returns the blocks
+    before the ring, which a recovery writes, and how many entries there are."""
+    meta, _ = metadata(BLOCKS, NODES, journal, 1, [])
+    count = len(meta) // BLOCK
+    head = meta + info_block()
+    blocks = [meta[at : at + BLOCK] for at in range(0, len(meta), BLOCK)]
+    entries = (journal - 1) // 5 if is_full else 0
+    with open(path, "wb") as file:
+        file.write(head)
+        for number in range(1, entries + 1):
+            node_block = 2 + number % (count - 2)
+            file.write(entry(number, [(at, blocks[at]) for at in (0, 1, node_block)]))
+        file.truncate((count + journal + BLOCKS) * BLOCK)
+    return head, entries
+
+
+def write_wal(path, size):
+    """A database whose WAL has at least so many bytes: rows of three pages, each a transaction."""
+    source = path.with_name("source.db")
+    base = sqlite3.connect(source, isolation_level=None)
+    for line in ["page_size=8192", "journal_mode=wal", "wal_autocheckpoint=0", "synchronous=off"]:
+        base.execute(f"pragma {line}").fetchall()
+    base.execute("create table blobs (root blob primary key, bytes blob) without rowid")
+    wal = pathlib.Path(f"{source}-wal")
+    number = 0
+    while number == 0 or wal.stat().st_size < size:
+        base.execute("begin")
+        base.execute("insert into blobs values (?, ?)", (number.to_bytes(32, "big"), bytes(16000)))
+        base.execute("commit")
+        number += 1
+    shutil.copy(source, path)
+    shutil.copy(wal, f"{path}-wal")
+    base.close()
+    for name in [source, wal, f"{source}-shm"]:
+        pathlib.Path(name).unlink(missing_ok=True)
+    return pathlib.Path(f"{path}-wal").stat().st_size
+
+
+class Ours:
+    """A volume with a full ring, and one with an empty one."""
+
+    def __init__(self, program, folder, journal):
+        self.program, self.image, self.empty = program, folder / "full.img", folder / "empty.img"
+        self.head, self.entries = write_image(self.image, journal, True)
+        write_image(self.empty, journal, False)
+        self.size = self.entries * 5 * BLOCK
+
+    def run(self, word, image):
+        return timed([self.program, f"file:{image}", word], "/dev/null")
+
+    def once(self):
+        """The seconds of a scan and of a recovery; the volume is then as it was."""
+        before, _ = self.run("list", self.empty)
+        scan, text = self.run("list", self.image)
+        if text:
+            raise SystemExit("the volume has blobs")
+        recover, text = self.run("recover", self.image)
+        if text != f"recovered {self.entries}\n":
+            raise SystemExit(f"recover printed {text!r}")
+        with open(self.image, "r+b") as file:
+            file.write(self.head)
+        return {"list": scan, "scan": max(scan - before, 1e-9), "recover": recover}
+
+
+class Sqlite:
+    """A database with a WAL."""
+
+    def __init__(self, folder, size):
+        self.kept, self.used = folder / "kept.db", folder / "used.db"
+        self.size = write_wal(self.kept, size)
+
+    def once(self):
+        """The seconds of the first query of a new connection, and of a checkpoint after it."""
+        for end in ["", "-wal"]:
+            shutil.copy(f"{self.kept}{end}", f"{self.used}{end}")
+        pathlib.Path(f"{self.used}-shm").unlink(missing_ok=True)
+        found = {}
+        start = time.perf_counter()
+        base = sqlite3.connect(self.used)
+        base.execute("select count(*) from sqlite_schema").fetchall()
+        found["query"] = time.perf_counter() - start
+        start = time.perf_counter()
+        base.execute("pragma synchronous=full")
+        base.execute("pragma wal_checkpoint(truncate)").fetchall()
+        found["both"] = found["query"] + time.perf_counter() - start
+        base.close()
+        return found
+
+
+def crc_seconds(path, size):
+    """How long zlib's CRC-32 takes over so many bytes of a file's ring."""
+    with open(path, "rb") as file:
+        data = file.read(size)
+    start = time.perf_counter()
+    zlib.crc32(data)
+    return time.perf_counter() - start
+
+
+def main():
+    program = pathlib.Path(sys.argv[1]) if len(sys.argv) > 1 else blobfs()
+    rows = []
+    for journal in SIZES:
+        with tempfile.TemporaryDirectory() as name:
+            folder = pathlib.Path(name)
+            ours = Ours(program, folder, journal)
+            other = Sqlite(folder, ours.size)
+            best = {}
+            for _ in range(RUNS):
+                found = {**ours.once(), **other.once(), "crc": crc_seconds(ours.image, ours.size)}
+                for key, seconds in found.items():
+                    best[key] = min(best.get(key, seconds), seconds)
+            per_byte = ours.size / other.size
+            rows.append([
+                str(ours.size // BLOCK), f"{1000 * best['list']:.0f}", f"{1000 * best['recover']:.0f}",
+                f"{ours.size / best['scan'] / 1e6:.0f}", f"{ours.size / best['crc'] / 1e6:.0f}",
+                f"{1000 * best['query']:.0f}", f"{1000 * best['both']:.0f}",
+                f"{best['query'] * per_byte / best['list']:.2f}",
+                f"{best['both'] * per_byte / best['recover']:.2f}",
+                most_memory([program, f"file:{ours.image}", "list"], "/dev/null"),
+            ])
+    print(f"entries of five blocks, best of {RUNS}")
+    table([
+        "blocks", "list ms", "recover ms", "scan MB/s", "zlib crc32", "query ms", "and checkpoint",
+        "query to list", "both to recover", "list MiB",
+    ], rows)
+
+
+main()
