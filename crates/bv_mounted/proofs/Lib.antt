@@ -5,6 +5,7 @@ pub mod HoldLemmas
 pub mod FreshLemmas
 pub mod SafeLemmas
 pub mod ToldLemmas
+pub mod LiesLemmas
 pub mod MountLemmas
 pub mod OpenLemmas
 pub mod CallerLemmas

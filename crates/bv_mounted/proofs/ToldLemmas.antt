@@ -1,5 +1,5 @@
 -- What a device tells since a mount began: the recovery, and nothing else.
-use Rattle.std.proofs.Common.{◌≡◌, ◌≤◌, ◌<◌, ℕ, List, [], length, take, Option, Some, None, Result, IfSome, ap, sym, ◌∙◌, subst, arith}
+use Rattle.std.proofs.Common.{◌≡◌, ◌≤◌, ℕ, List, [], length, Option, Some, None, Result, IfSome, ap, sym, ◌∙◌, subst, arith}
 use Rattle.std.proofs.Math.Seq.{take-append_seam, drop-append_seam}
 use Rattle.std.specs.Prelude.{option_map}
 use Rattle.spec_disk.specs.declared.event.Event.{Event}
@@ -7,7 +7,7 @@ use Rattle.spec_disk.specs.Disk.{Blocks, now_after}
 use Rattle.spec_disk.specs.Images.{IsSettled}
 use Rattle.spec_disk.proofs.EventLemmas.{length-now_after}
 use Rattle.spec_record.specs.declared.info.Info.{Info}
-use Rattle.spec_record.specs.Geometry.{block_at, ring_slots, total_blocks}
+use Rattle.spec_record.specs.Geometry.{ring_slots, total_blocks}
 use Rattle.spec_image.specs.Blobs.{blob_map}
 use Rattle.spec_image.specs.Volume.{blobs}
 use Rattle.spec_inspect.specs.declared.mount_fault.MountFault.{MountFault}
@@ -115,19 +115,6 @@ store_safe i n dev ring s is long total was at =
     → Both x (map_at i.meta.geometry i.meta.blocks) (map_at i.meta.geometry i.meta.blocks))
     → Opened (stored_of x) (history_of i) → IfSome (stored_of x).told (λ d. CrashPrefix d.base d.trace (history_of i) × Both x (opening_map (history_of i)) (opening_map (history_of i)))) (sym is)
     (λ both opened. told_safe i n dev.told ring (Both (first_standing dev n i.meta ring)) dev.block_count long total was at both opened)
-
--- a disk that is told has all data blocks of the volume
-pub told_room : (i : Inspected) (n : ℕ) (dev : Seen) (ring : Cursor) (s : Standing) → s ≡ first_standing dev n i.meta ring → IfSome dev.told (λ d. length d.base ≡ dev.block_count) → total_blocks i.geometry ≤ dev.block_count
-    → IfSome (stored_of s).told (λ d. (b : ℕ) → b < (stored_of s).geometry.blocks → block_at (stored_of s).geometry b < length d.base)
-told_room i n dev ring s is long total =
-    subst (λ (x : Standing). IfSome (stored_of x).told (λ d. (b : ℕ) → b < (stored_of x).geometry.blocks → block_at (stored_of x).geometry b < length d.base)) (sym is) (go dev.told long)
-  where
-    fits : total_blocks i.meta.geometry ≤ dev.block_count
-    fits = omega (arith, total, ap total_blocks i.lawful.geometry)
-
-    go : (o : Option Disk) → IfSome o (λ d. length d.base ≡ dev.block_count) → IfSome (option_map (since n) o) (λ d. (b : ℕ) → b < i.meta.geometry.blocks → block_at i.meta.geometry b < length d.base)
-    go None counts = tt
-    go (Some d) counts = λ b low. omega (arith, low, fits, counts, length-now_after d.base (take n d.trace))
 
 -- ---- what the mount answers of a settled device
 

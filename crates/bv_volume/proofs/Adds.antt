@@ -1,9 +1,9 @@
 -- Adds that begin, and adds that end: the tables and the space go on together.
-use Rattle.std.proofs.Common.{◌≡◌, ◌≤◌, ◌<◌, ◌⊎◌, inl, inr, ℕ, ◌+◌, ◌-◌, ◌++◌, ◌∷◌, [], Bool, true, false, cond, is_some, sum, List, length, Option, Some, None, Result, Ok, Err, IfOk, OnOk, OnErr, IfSome, refl, ap, sym, ◌∙◌, subst, arith}
+use Rattle.std.proofs.Common.{◌≡◌, ◌≤◌, inl, ℕ, ◌+◌, ◌-◌, ◌++◌, ◌∷◌, [], Bool, true, false, cond, sum, List, length, Option, Some, None, Result, Ok, Err, IfOk, OnOk, OnErr, refl, ap, sym, ◌∙◌, subst, arith}
 use Rattle.std.specs.BTreeMap.{insert_entry, is_at}
 use Rattle.std.specs.Global.{Vec}
 use Rattle.std.specs.List.{sum_by}
-use Rattle.std.specs.Map.{remove_entry, lookup, values_of}
+use Rattle.std.specs.Map.{values_of}
 use Rattle.std.proofs.lemmas.List.Sums.{sum_by-cons}
 use Rattle.std.proofs.lemmas.Map.Entries.{sum_by-remove_entry}
 use Rattle.spec_tree.specs.Order.{digest_cmp, same_digest}
@@ -11,10 +11,9 @@ use Rattle.spec_tree.specs.Tree.{need_of}
 use Rattle.spec_tree.specs.declared.Digest.{Digest}
 use Rattle.spec_core.proofs.EntryLemmas.{lookup-insert_entry}
 use Rattle.spec_core.proofs.Holding.{digest_total, one_digest, same_self}
-use Rattle.spec_core.specs.History.{last_state, setting_of}
+use Rattle.spec_core.specs.History.{last_state}
 use Rattle.spec_core.specs.Log.{without}
 use Rattle.spec_core.specs.State.{State, find}
-use Rattle.spec_core.specs.declared.act.Act.{Act}
 use Rattle.spec_core.specs.declared.act.Act.TheVariants.{Begin, Retire, Settle}
 use Rattle.spec_core.specs.declared.map_change.MapChange.{MapChange}
 use Rattle.spec_core.specs.declared.reply.Reply.{Reply}
@@ -43,7 +42,7 @@ use Rattle.bv_claims.specs.declared.claims.Claims.{Claims}
 use Rattle.bv_volume.specs.Adding.{Begins, IsBegun}
 use Rattle.bv_volume.specs.declared.tokens.Begun.{Begun}
 use Rattle.bv_volume.specs.Kept.{Kept, seen_of}
-use Rattle.bv_volume.specs.Spaced.{times_placed, HasSpace, SpaceAt, Exactly, NodesAt, Noded, Spaced}
+use Rattle.bv_volume.specs.Spaced.{HasSpace, SpaceAt, NodesAt, Noded, Spaced}
 use Rattle.bv_volume.proofs.Freed.{tabled_last}
 use Rattle.bv_volume.proofs.Quiet.{begins}
 use Rattle.bv_volume.proofs.Still.{Still, still, spaced_still}

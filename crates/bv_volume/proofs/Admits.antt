@@ -1,6 +1,6 @@
 -- An add is admitted: the blocks and nodes that it gets.
-use Rattle.std.proofs.Common.{◌≡◌, ◌≤◌, ◌<◌, ◌⊎◌, inl, inr, ℕ, zero, suc, ◌+◌, ◌-◌, ◌/◌, ◌++◌, ◌∷◌, [], Bool, true, false, cond, nat_le, is_some, sum, get_or, add-one, List, length, Option, Some, None, Result, Ok, Err, OnOk, OnErr, IfSome, refl, ap, sym, ◌∙◌, subst, arith}
-use Rattle.std.specs.BTreeMap.{insert_entry, is_at}
+use Rattle.std.proofs.Common.{◌≡◌, ◌≤◌, inr, ℕ, zero, suc, ◌+◌, ◌-◌, ◌/◌, ◌++◌, ◌∷◌, [], Bool, true, false, cond, nat_le, sum, add-one, List, length, Option, Some, None, refl, ap, sym, ◌∙◌, subst, arith}
+use Rattle.std.specs.BTreeMap.{insert_entry}
 use Rattle.std.specs.Global.{Vec}
 use Rattle.std.specs.List.{sum_by}
 use Rattle.std.specs.List.Sorted.{IsStrictlySortedBy, IsStrictlyIncreasing}
@@ -18,21 +18,20 @@ use Rattle.spec_core.proofs.EntryLemmas.{lookup-insert_entry}
 use Rattle.spec_core.proofs.Holding.{digest_total, one_digest, same_self}
 use Rattle.spec_core.specs.Log.{without}
 use Rattle.spec_core.specs.Room.{blob_worst, worst_nodes}
-use Rattle.spec_core.specs.State.{State, find}
+use Rattle.spec_core.specs.State.{find}
 use Rattle.spec_core.specs.declared.setting.Setting.{Setting}
 use Rattle.spec_rest.specs.Rest.{Map}
 use Rattle.bv_claims.specs.Blocks.{times, HasEachOnce, HaveSameBlocks, Rises}
 use Rattle.bv_claims.specs.Tokens.{block_count}
 use Rattle.bv_claims.proofs.Counts.{times-append}
 use Rattle.bv_model.specs.Sole.{Sole}
-use Rattle.bv_model.proofs.Adds.{find-without, sole-without, sorted_sole}
+use Rattle.bv_model.proofs.Adds.{sole-without, sorted_sole}
 use Rattle.bv_node.specs.Runs.{extends, runs, runs_from}
 use Rattle.bv_space.specs.Owned.{Owned, times_in}
-use Rattle.bv_space.proofs.Entries.{put_back}
 use Rattle.bv_ledger.specs.Tables.{Tables}
 use Rattle.bv_ledger.proofs.Sums.{sum_less, sum_more}
 use Rattle.bv_store.specs.Stored.{Stored}
-use Rattle.bv_volume.specs.Spaced.{nodes_at, times_placed, HasSpace, SpaceAt, NodesAt, LiesAt, LieAll, Exactly, Noded, Spaced}
+use Rattle.bv_volume.specs.Spaced.{nodes_at, HasSpace, SpaceAt, NodesAt, LiesAt, LieAll, Spaced}
 use Rattle.bv_volume.proofs.Adds.{nodes_less, sum_entries}
 use Rattle.bv_volume.proofs.Placed.{Places, lie_without}
 

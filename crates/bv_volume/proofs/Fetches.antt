@@ -30,6 +30,7 @@ use Rattle.bv_space.specs.Owned.{Owned}
 use Rattle.bv_store.specs.Stored.{Stored}
 use Rattle.bv_volume.specs.Events.{event_of, noted}
 use Rattle.bv_volume.specs.Fetched.{Fetches, HasFetched, fetch_reply}
+use Rattle.bv_volume.proofs.Located.{LocatedIn, lies_by}
 use Rattle.bv_volume.specs.Kept.{Kept, seen_of}
 use Rattle.bv_volume.specs.Spaced.{LiesAt, Spaced}
 use Rattle.bv_volume.specs.declared.fetching.FetchFault.{FetchFault}
@@ -156,16 +157,17 @@ for_any None P p = tt
 for_any (Some r) P p = p
 
 -- the window is that of the blob that the place holds
-pub fetched_is : (n : Noted) (next : ℕ) (t : Tables) (o : Owned) (s s' : Stored) (Both New : Map → Map → Type 0) (Held Hold : ℕ → Type 0) (place : Place) (r : Digest) (blob : Blob) (places : List ℕ) (w : ℕ) (result : Result RawWindow FetchFault) → held (last_state n.history next).slots place ≡ Some r → find (last_state n.history next).map r ≡ Some blob → find s.placed r ≡ Some places
+pub fetched_is : (n : Noted) (next : ℕ) (t : Tables) (o : Owned) (s s' : Stored) (Both New : Map → Map → Type 0) (Held Hold : ℕ → Type 0) (place : Place) (r : Digest) (blob : Blob) (places : List ℕ) (w : ℕ) (result : Result RawWindow FetchFault) → held (last_state n.history next).slots place ≡ Some r → find (last_state n.history next).map r ≡ Some blob → find s.placed r ≡ Some places → LocatedIn n.history s
     → Fetches s s' Both New Held Hold places blob w result → IfOk result (HasFetched (seen_of n next t o s) place w)
-fetched_is n next t o s s' Both New Held Hold p r blob places w (Ok raw) holds has there read = record {
+fetched_is n next t o s s' Both New Held Hold p r blob places w (Ok raw) holds has there located read = record {
   root = r;
   holds = holds;
   blob = blob;
   has = has;
   places = places;
   lies = there;
+  by = lies_by n.history s r places there located;
   lengths = read.lengths;
   now = read.now;
 }
-fetched_is n next t o s s' Both New Held Hold p r blob places w (Err e) holds has there read = tt
+fetched_is n next t o s s' Both New Held Hold p r blob places w (Err e) holds has there located read = tt

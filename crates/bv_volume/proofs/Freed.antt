@@ -1,5 +1,5 @@
 -- The space over a call that purges and makes all durable.
-use Rattle.std.proofs.Common.{◌≡◌, ◌≤◌, ◌<◌, ◌⊎◌, inl, inr, ℕ, ◌+◌, ◌-◌, ◌++◌, ◌∷◌, [], false, List, length, drop, get_or, zero, suc, is_some, cond, true, Option, Some, None, refl, ap, sym, ◌∙◌, subst, arith}
+use Rattle.std.proofs.Common.{◌≡◌, ◌≤◌, ◌<◌, ◌⊎◌, inl, inr, ℕ, ◌+◌, ◌++◌, ◌∷◌, [], false, List, length, get_or, zero, suc, is_some, cond, true, Option, Some, None, refl, ap, sym, ◌∙◌, subst, arith}
 use Rattle.std.specs.List.{sum_by, concat, Contains}
 use Rattle.std.specs.Map.{values_of}
 use Rattle.std.proofs.Math.Seq.{drop-length}
@@ -10,7 +10,7 @@ use Rattle.spec_tree.specs.declared.Digest.{Digest}
 use Rattle.spec_tree.specs.declared.blob.Blob.{Blob}
 use Rattle.spec_core.specs.History.{History, setting_of, last_state, Legal}
 use Rattle.spec_core.specs.Log.{changed, purges}
-use Rattle.spec_core.specs.Room.{blob_need, purge_need}
+use Rattle.spec_core.specs.Room.{purge_need}
 use Rattle.spec_core.specs.State.{State, find, among}
 use Rattle.spec_core.specs.declared.act.Act.TheVariants.{Sync}
 use Rattle.spec_core.specs.declared.map_change.MapChange.{MapChange}
@@ -31,7 +31,7 @@ use Rattle.bv_ledger.specs.Tables as L
 use Rattle.bv_ledger.specs.Tables.{Tables, Accounts}
 use Rattle.bv_store.specs.Stored.{Stored, Entry, blocks_in, placed_without}
 use Rattle.bv_volume.specs.Kept.{Kept}
-use Rattle.bv_volume.specs.Spaced.{times_placed, LiesAt, LieAll, Exactly, IsFresh, Spaced, Freed, SpaceAt}
+use Rattle.bv_volume.specs.Spaced.{times_placed, LiesAt, LieAll, IsFresh, Spaced, Freed, SpaceAt}
 use Rattle.bv_volume.specs.Placed.{blocks_at}
 use Rattle.bv_volume.proofs.Still.{noded_same}
 use Rattle.bv_volume.proofs.Placed.{Places, blocks_are_taken, taken_from, lie_purged, sole_placed, taken_need, times_purged, find_other}

@@ -1,5 +1,5 @@
 -- A mount begins: its history has no event.
-use Rattle.std.proofs.Common.{◌≡◌, ◌≤◌, ℕ, [], ◌+◌, ◌-◌, List, Option, Some, None, IfSome, inl, refl, ap, sym, ◌∙◌, subst, arith}
+use Rattle.std.proofs.Common.{◌≡◌, ℕ, [], ◌+◌, ◌-◌, List, Option, Some, None, IfSome, inl, refl, ap, sym, ◌∙◌, subst, arith}
 use Rattle.spec_disk.specs.Disk.{Blocks}
 use Rattle.spec_disk.specs.declared.event.Event.{Event}
 use Rattle.spec_core.specs.History.{History, setting_of, opening_map, first_state, last_state, room}

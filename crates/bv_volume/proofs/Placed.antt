@@ -1,9 +1,8 @@
 -- Where blobs lie while an entry purges some of them.
-use Rattle.std.proofs.Common.{◌≡◌, ◌≤◌, ℕ, ◌+◌, ◌++◌, ◌∷◌, [], Bool, true, false, cond, ◌||◌, ◌<◌, zero, suc, get_or, take, is_some, List, length, Option, Some, None, refl, ap, sym, ◌∙◌, subst, arith}
-use Rattle.std.specs.BTreeMap.{insert_entry, is_at}
+use Rattle.std.proofs.Common.{◌≡◌, ◌≤◌, ℕ, ◌+◌, ◌++◌, ◌∷◌, [], Bool, true, false, cond, ◌||◌, ◌<◌, zero, suc, get_or, take, List, length, Option, Some, None, refl, ap, sym, ◌∙◌, subst, arith}
+use Rattle.std.specs.BTreeMap.{is_at}
 use Rattle.std.specs.Cmp.{eq_by_cmp_equiv}
 use Rattle.std.specs.List.{sum_by, flat_map}
-use Rattle.std.specs.Map.{values_of}
 use Rattle.std.specs.Option.{option_map, unwrap_or}
 use Rattle.std.proofs.lemmas.List.{append-nil, take_more}
 use Rattle.std.proofs.lemmas.List.Concat.{flat_map-append}
@@ -12,18 +11,17 @@ use Rattle.spec_tree.specs.declared.Digest.{Digest}
 use Rattle.spec_tree.specs.declared.blob.Blob.{Blob}
 use Rattle.spec_tree.specs.Order.{digest_cmp, same_digest}
 use Rattle.spec_core.proofs.Counting.{count-cons}
-use Rattle.spec_core.proofs.EntryLemmas.{lookup-insert_entry, lookup-remove_other}
+use Rattle.spec_core.proofs.EntryLemmas.{lookup-remove_other}
 use Rattle.spec_core.proofs.Holding.{digest_total, or_false}
 use Rattle.spec_core.proofs.Once.{times as times_root}
-use Rattle.spec_core.specs.Log.{without, changed, purges, purge_of}
-use Rattle.spec_core.specs.Room.{blob_need, purge_need}
+use Rattle.spec_core.specs.Log.{without, changed, purges}
+use Rattle.spec_core.specs.Room.{purge_need}
 use Rattle.spec_core.specs.State.{find, among}
-use Rattle.spec_core.specs.declared.map_change.MapChange.{MapChange}
 use Rattle.spec_rest.specs.Rest.{Map}
 use Rattle.bv_claims.specs.Blocks.{times}
 use Rattle.bv_claims.proofs.Counts.{times-append}
 use Rattle.bv_model.specs.Sole.{Sole}
-use Rattle.bv_model.proofs.Adds.{sole-without, sole-insert, find-without}
+use Rattle.bv_model.proofs.Adds.{sole-without, find-without}
 use Rattle.bv_model.proofs.Flush.{changed_by_one}
 use Rattle.bv_ledger.proofs.Sums.{needs, needs_purged}
 use Rattle.bv_store.specs.Stored.{placed_without}

@@ -1,18 +1,16 @@
 -- A publication, from the token to the entry: what the plan and the commit ask, and what follows.
-use Rattle.std.proofs.Common.{◌≡◌, ◌≤◌, ◌<◌, ◌^◌, ◌⊎◌, inl, inr, ℕ, ◌+◌, ◌-◌, ◌++◌, ◌∷◌, [], true, false, is_some, sum, List, length, Option, Some, None, IfSome, refl, ap, sym, ◌∙◌, subst, arith}
+use Rattle.std.proofs.Common.{◌≡◌, ◌≤◌, ◌<◌, ◌^◌, ◌⊎◌, ℕ, ◌+◌, ◌++◌, ◌∷◌, [], true, false, is_some, List, length, Option, Some, None, IfSome, refl, ap, sym, ◌∙◌, subst, arith}
 use Rattle.std.specs.Global.{Vec}
-use Rattle.std.specs.List.{sum_by, Contains}
-use Rattle.std.specs.Map.{values_of}
+use Rattle.std.specs.List.{Contains}
 use Rattle.spec_tree.specs.Tree.{need_of}
 use Rattle.spec_tree.specs.declared.Digest.{Digest}
 use Rattle.spec_tree.specs.declared.blob.Blob.{Blob}
-use Rattle.spec_record.specs.declared.geometry.Geometry.{Geometry}
 use Rattle.spec_core.specs.Change.{blob_of}
 use Rattle.spec_core.specs.History.{setting_of, last_state}
 use Rattle.std.specs.BTreeMap.{insert_entry}
 use Rattle.spec_tree.specs.Order.{digest_cmp}
 use Rattle.spec_core.specs.Log.{changed, purges}
-use Rattle.spec_core.specs.State.{State, find, among}
+use Rattle.spec_core.specs.State.{State, find}
 use Rattle.spec_core.specs.declared.act.Act.TheVariants.{Settle}
 use Rattle.spec_core.specs.declared.map_change.MapChange.{MapChange}
 use Rattle.spec_core.specs.declared.map_change.MapChange.TheVariants.{Publish}
@@ -30,7 +28,7 @@ use Rattle.bv_ledger.specs.Entries.{MayPublish}
 use Rattle.bv_ledger.specs.Tables as L
 use Rattle.bv_ledger.specs.Tables.{Tables}
 use Rattle.bv_ledger.proofs.Sums.{sum_less}
-use Rattle.bv_store.specs.Stored.{Stored, Entry, CanWrite, HasBlob, IsThere, blocks_in, blocks_on, entry_changes, nodes_taken, placed_after, placed_without, taken_by, LeavesThird}
+use Rattle.bv_store.specs.Stored.{Stored, Entry, CanWrite, HasBlob, IsThere, blocks_on, entry_changes, nodes_taken, placed_after, placed_without, taken_by, LeavesThird}
 use Rattle.bv_writer.specs.Blocks.{IsBlobOf}
 use Rattle.bv_fetch.proofs.Written.{written_blobs_verify}
 use Rattle.bv_volume.specs.Adding.{IsAdmitted, IsPut}
@@ -144,6 +142,12 @@ module _ (n : Noted) (next : ℕ) (t new : Tables) (o o' : Owned) (s z w : Store
     pub publish_call : (same : o'.claims ≡ o.claims) (counted : IfSome w.told (λ d. length d.trace ≡ w.calls)) (holds : (x y : Map) → New x y → IfSome w.told (λ d. Leaves d.base d.trace (HoldsEither x y))) (room : length t.adds + 1 ≤ n.spare) (failed : Option ℕ) (n' : Noted) → n' ≡ with_noted n (event_of who (Settle a.root) (device_reply Published failed) w.calls) → L.Does t new who (Settle a.root) (Some (device_reply Published failed)) → Enters z w Mid New (λ m. entry_changes m entry) failed
         → CallDone n n' next t new o o' z w New who (Settle a.root) (Some (device_reply Published failed))
     publish_call same counted holds room failed n' is does enters = settle_call n next t new o o' same z w Mid New who mid_kept going counted holds room a.root failed n' is does (enters_so failed enters)
+
+    -- the blob then lies at the add's blocks
+    pub publish_placed : (failed : Option ℕ) → (failed ≡ None → w.placed ≡ placed_after z.placed entry) → failed ≡ None → w.placed ≡ insert_entry digest_cmp (placed_without s.placed t.queue) a.root old.blocks.items
+    publish_placed failed placed none =
+        placed none ∙ ap (λ (xs : List ℕ). insert_entry digest_cmp (placed_without z.placed t.queue) a.root xs) p.same
+        ∙ ap (λ (x : Stored). insert_entry digest_cmp (placed_without x.placed t.queue) a.root old.blocks.items) p.is
 
     pub publish_spaced : (failed : Option ℕ) → L.Does t new who (Settle a.root) (Some (device_reply Published failed)) → w.geometry ≡ z.geometry → (failed ≡ None → w.placed ≡ placed_after z.placed entry) → (failed ≡ None → w.used_nodes ≤ z.used_nodes + nodes_taken entry.published)
         → ((f : ℕ) → failed ≡ Some f → (w.placed ≡ z.placed) × (w.used_nodes ≡ z.used_nodes)) → ((b : ℕ) → NewHeld b → MidHeld b ⊎ Contains (taken_by entry.published) b)

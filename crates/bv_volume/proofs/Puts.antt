@@ -1,22 +1,20 @@
 -- A block of an add is written: the tables and the space go on together.
-use Rattle.std.proofs.Common.{◌≡◌, ◌≤◌, ◌<◌, ◌⊎◌, inl, inr, ℕ, ◌+◌, ◌++◌, ◌∷◌, [], get_or, List, length, Option, Some, None, Result, Ok, Err, OnOk, OnErr, refl, ap, sym, ◌∙◌, subst, arith}
+use Rattle.std.proofs.Common.{◌≡◌, ◌≤◌, ◌<◌, inl, ℕ, ◌+◌, get_or, List, length, Option, Some, None, Result, Ok, Err, OnOk, OnErr, refl, ap, sym, ◌∙◌, subst, arith}
 use Rattle.std.specs.Global.{Vec}
 use Rattle.std.proofs.lemmas.List.Elements.{Contains-get_or}
 use Rattle.spec_tree.specs.Tree.{need_of}
 use Rattle.spec_tree.specs.declared.Digest.{Digest}
-use Rattle.spec_core.specs.History.{setting_of, last_state}
 use Rattle.spec_core.specs.State.{State, find}
-use Rattle.spec_core.specs.declared.act.Act.{Act}
 use Rattle.spec_core.specs.declared.act.Act.TheVariants.{Put}
 use Rattle.spec_core.specs.declared.map_change.MapChange.{MapChange}
 use Rattle.spec_core.specs.declared.reply.Reply.TheVariants.{Written, DeviceFault, Stopped as IsStopped}
 use Rattle.spec_core.specs.declared.setting.Setting.{Setting}
 use Rattle.spec_core.specs.declared.who.Who.{Who}
 use Rattle.spec_rest.specs.Rest.{Map}
-use Rattle.bv_claims.specs.Blocks.{times, Rises}
+use Rattle.bv_claims.specs.Blocks.{times}
 use Rattle.bv_claims.proofs.Searches.{Rises-range}
 use Rattle.bv_model.specs.Noted.{Noted}
-use Rattle.bv_space.specs.Owned.{Owned, times_in}
+use Rattle.bv_space.specs.Owned.{Owned}
 use Rattle.bv_ledger.specs.Answers.{device_reply}
 use Rattle.bv_ledger.specs.Tables as L
 use Rattle.bv_ledger.specs.Tables.{Tables, Accounts}
@@ -24,7 +22,7 @@ use Rattle.bv_ledger.proofs.Sums.{sum_less}
 use Rattle.bv_store.specs.Stored.{Stored}
 use Rattle.bv_volume.specs.Adding.{IsAdmitted}
 use Rattle.bv_volume.specs.Kept.{Kept, seen_of}
-use Rattle.bv_volume.specs.Spaced.{HasSpace, SpaceAt, Spaced, times_placed}
+use Rattle.bv_volume.specs.Spaced.{HasSpace, Spaced}
 use Rattle.bv_volume.specs.declared.tokens.Admitted.{Admitted}
 use Rattle.bv_volume.proofs.Adds.{seen_add, tabled_add}
 use Rattle.bv_volume.proofs.Freed.{Stopped, counted, spaced_stopped}

@@ -1,13 +1,11 @@
 -- The adds of sessions: what each call makes of them.
-use Rattle.std.proofs.Common.{◌≡◌, ◌≢◌, ◌<◌, ◌≤◌, ◌+◌, ◌==◌, ◌∷◌, ◌++◌, [], ℕ, suc, Bool, true, false, cond, get_or, is_some, List, length, Option, None, Some, IfSome, Result, Ok, Err, OnOk, OnErr, IfOk, refl, ap, sym, ◌∙◌, subst, arith, append_assoc, if◌then◌else◌}
+use Rattle.std.proofs.Common.{◌≡◌, ◌<◌, ◌∷◌, ◌++◌, [], ℕ, zero, suc, Bool, true, false, is_some, List, length, Option, None, Some, IfSome, Result, Ok, Err, OnOk, OnErr, refl, ap, sym, ◌∙◌, subst, arith, append_assoc}
 use Rattle.std.specs.BTreeMap.{insert_entry}
 use Rattle.std.specs.Global.{Vec}
-use Rattle.std.proofs.lemmas.Bool.{eqb-true, eqb-false}
-use Rattle.std.proofs.lemmas.List.{append-nil, length-append, get_or-set_same, get_or-set_other}
+use Rattle.std.proofs.lemmas.List.{append-nil, length-append}
 use Rattle.spec_disk.specs.Disk.{block, now_after}
 use Rattle.spec_disk.specs.declared.event.Event.{Event}
-use Rattle.spec_disk.specs.declared.event.Event.TheVariants as device
-use Rattle.spec_disk.proofs.EventLemmas.{now_after-append, length-now_after}
+use Rattle.spec_disk.proofs.EventLemmas.{length-now_after}
 use Rattle.spec_record.specs.Geometry.{block_at}
 use Rattle.spec_record.specs.declared.geometry.Geometry.{Geometry}
 use Rattle.spec_tree.specs.Order.{digest_cmp, same_digest}
@@ -17,9 +15,9 @@ use Rattle.spec_core.proofs.EntryLemmas.{lookup-insert_entry, lookup-remove_othe
 use Rattle.spec_core.proofs.Holding.{digest_total, one_digest, same_self}
 use Rattle.spec_core.specs.History.{History, last_state, with_event}
 use Rattle.spec_core.specs.Log.{without}
-use Rattle.spec_core.specs.State.{State, find}
+use Rattle.spec_core.specs.State.{find}
 use Rattle.spec_core.specs.declared.act.Act.{Act}
-use Rattle.spec_core.specs.declared.act.Act.TheVariants.{Begin, Admit, Put, Settle, Retire, Sync}
+use Rattle.spec_core.specs.declared.act.Act.TheVariants.{Begin, Admit, Sync}
 use Rattle.spec_core.specs.declared.event.CoreEvent.{CoreEvent}
 use Rattle.spec_core.specs.declared.reply.Reply.{Reply}
 use Rattle.spec_core.specs.declared.reply.Reply.TheVariants as replies
@@ -27,15 +25,13 @@ use Rattle.spec_core.specs.declared.who.Who.{Who}
 use Rattle.spec_crash.specs.Timing.{IsWritten}
 use Rattle.spec_rest.specs.Rest.{Map}
 use Rattle.spec_session.specs.Conform.{events_of}
-use Rattle.spec_session.specs.Own.{OwnAdd, add_after, add_of, admitted_add, new_add, put_add}
+use Rattle.spec_session.specs.Own.{OwnAdd, add_after, add_of, admitted_add, new_add}
 use Rattle.spec_orderly.specs.Orderly.{IsInOrder}
 use Rattle.spec_orderly.proofs.Ordered.{Agrees, agrees_last}
-use Rattle.bv_claims.specs.Blocks.{times}
-use Rattle.bv_claims.proofs.Counts.{times-append, times_same}
 use Rattle.bv_device.specs.Told.{Disk, disk_with, now_of}
 use Rattle.bv_model.specs.Noted.{Noted}
 use Rattle.bv_space.specs.Owned.{Owned}
-use Rattle.bv_ledger.specs.Answers.{admit_reply, begin_reply, device_reply, look_act}
+use Rattle.bv_ledger.specs.Answers.{admit_reply, begin_reply, look_act}
 use Rattle.bv_ledger.specs.Tables.{Tables}
 use Rattle.bv_claims.specs.declared.grant.Grant.{Grant}
 use Rattle.bv_ledger.specs.declared.adds.BeginFault.{BeginFault}
@@ -43,14 +39,14 @@ use Rattle.bv_ledger.specs.declared.adds.BeginFault.TheVariants as beginning
 use Rattle.bv_ledger.specs.declared.faults.NoNodes.{NoNodes}
 use Rattle.bv_ledger.specs.declared.opening.Look.{Look}
 use Rattle.bv_ledger.specs.declared.opening.Look.TheVariants as look
-use Rattle.bv_ledger.proofs.Sums.{sum_less}
-use Rattle.bv_store.specs.Stored.{Stored, Grows, SameData, blocks_on}
+use Rattle.bv_store.specs.Stored.{Stored, Grows, HasWholeBlocks, SameData, blocks_on}
 use Rattle.bv_writer.specs.Blocks.{IsBlobOf}
 use Rattle.bv_volume.specs.Adding.{Admitting, Begins, Ending, IsAdmitted, IsBegun, IsPut}
 use Rattle.bv_volume.specs.Events.{event_of, noted}
 use Rattle.bv_volume.specs.Kept.{Kept, seen_of}
-use Rattle.bv_volume.specs.Sessions.{AreWrites, HasAdmitted, HasBegun, HasPut, MayBegin, Ordered, PutsAreWrites, Stands, Waits, Works, blocks_written, own_add, puts_after, puts_of}
-use Rattle.bv_volume.specs.Spaced.{Freed, Handed, Noded, Spaced, nodes_at}
+use Rattle.bv_volume.specs.Sessions.{AreWrites, HasAdmitted, HasBegun, HasPut, MayBegin, Ordered, PutsAreWrites, Stands, Waits, Works, blocks_written, own_add}
+use Rattle.spec_served.specs.Adds.{puts_after, puts_of, was_published}
+use Rattle.bv_volume.specs.Spaced.{Freed, Handed, Noded, nodes_at}
 use Rattle.bv_volume.specs.declared.tokens.Admitted.{Admitted}
 use Rattle.bv_volume.specs.declared.tokens.Begun.{Begun}
 use Rattle.bv_space.proofs.Entries.{put_back}
@@ -58,15 +54,27 @@ use Rattle.bv_volume.proofs.Adds.{tabled_add, unset}
 use Rattle.bv_volume.proofs.Admits.{less_none}
 use Rattle.bv_volume.proofs.Counting.{grows_so}
 use Rattle.bv_volume.proofs.Joins.{grows_join}
+use Rattle.bv_volume.proofs.Located.{LocatedIn, located_quiet}
 use Rattle.bv_volume.proofs.Sessions.{SameAt, grows_by_none, keeps_unwritten, not_put, ordered_after, ordered_idle, same_all, writes_bytes}
 
+in_range : (image : List (List ℕ)) (at : ℕ) → length (block image at) ≡ 8192 → at < length image
+in_range [] at is = absurd (omega (arith, is))
+in_range (x ∷ image) zero is = omega arith
+in_range (x ∷ image) (suc at) is = omega (arith, in_range image at is)
+
+-- a disk with whole data blocks has all of them
+whole_room : (g : Geometry) (o : Option Disk) → IfSome o (HasWholeBlocks g) → IfSome o (λ d. (b : ℕ) → b < g.blocks → block_at g b < length d.base)
+whole_room g None whole = tt
+whole_room g (Some d) whole = λ b low. omega (arith, in_range (now_of d) (block_at g b) (whole b low), length-now_after d.base d.trace)
+
 -- no event was made
-pub ordered_fresh : (h : History) (o : Owned) (s : Stored) → h.events ≡ [] → IfSome s.told (λ d. (b : ℕ) → b < s.geometry.blocks → block_at s.geometry b < length d.base) → Ordered h o s
-ordered_fresh h o s none room = record {
+pub ordered_fresh : (h : History) (o : Owned) (s : Stored) → h.events ≡ [] → IfSome s.told (HasWholeBlocks s.geometry) → LocatedIn h s → Ordered h o s
+ordered_fresh h o s none whole located = record {
   order = rw none tt;
   each = λ x a is. let never : None ≡ Some a = sym (ap (λ (es : List CoreEvent). add_of (events_of x es)) none) ∙ is in absurd (cc);
-  room = room;
+  room = whole_room s.geometry s.told whole;
   puts = no_puts s.told;
+  located = located;
 }
   where
     no_puts : (o : Option Disk) → IfSome o (λ d. PutsAreWrites d.trace h.events)
@@ -79,6 +87,7 @@ pub record TakesNone (act : Act) (q : Reply) : Type 0 where
   pub add : (add : Option OwnAdd) → add_after add act q ≡ add
   pub puts : (puts : List ℕ) (calls : ℕ) → puts_after puts act q calls ≡ puts
   pub unput : (who : Who) (calls : ℕ) → ¬ IsWritten (event_of who act q calls)
+  pub unpublished : was_published act q ≡ false
 
 -- neither a call of the device nor an add
 pub ordered_silent : (n n' : Noted) (o : Owned) (s : Stored) (who : Who) (act : Act) (q : Option Reply) (calls : ℕ) → n' ≡ noted n who act q calls → IfSome q (TakesNone act) → Ordered n.history o s → Ordered n'.history o s
@@ -86,7 +95,7 @@ ordered_silent n n' o s who act None calls is none old = subst (λ (m : Noted). 
 ordered_silent n n' o s who act (Some q) calls is none old =
     subst (λ (m : Noted). Ordered m.history o s) (sym is)
     (ordered_idle n.history o o s s (event_of who act q calls) old refl (λ d more. Unit {0}) (grows_by_none s.told)
-    (none.order (own_add n.history who.session)) (none.unput who calls) (none.add (own_add n.history who.session)) (none.puts _ calls) (λ r. keeps_unwritten o o s s.faults r refl refl))
+    (none.order (own_add n.history who.session)) (located_quiet n.history s s (event_of who act q calls) (λ d more. Unit {0}) refl refl (grows_by_none s.told) old.puts none.unpublished (λ r places there. there) old.located) (none.unput who calls) (none.add (own_add n.history who.session)) (none.puts _ calls) (λ r. keeps_unwritten o o s s.faults r refl refl))
 
 -- whatever the reply is
 pub by_any : (act : Act) (q : Option Reply) → ((x : Reply) → TakesNone act x) → IfSome q (TakesNone act)
@@ -94,8 +103,8 @@ by_any act None each = tt
 by_any act (Some x) each = each x
 
 pub look_takes_none : (slot : ℕ) (what : Look) (q : Reply) → TakesNone (look_act slot what) q
-look_takes_none slot (look.Read off len) q = record { order = λ add. tt; add = λ add. refl; puts = λ puts calls. refl; unput = λ who calls w. w.0 }
-look_takes_none slot look.Scan q = record { order = λ add. tt; add = λ add. refl; puts = λ puts calls. refl; unput = λ who calls w. w.0 }
+look_takes_none slot (look.Read off len) q = record { order = λ add. tt; add = λ add. refl; puts = λ puts calls. refl; unput = λ who calls w. w.0; unpublished = refl }
+look_takes_none slot look.Scan q = record { order = λ add. tt; add = λ add. refl; puts = λ puts calls. refl; unput = λ who calls w. w.0; unpublished = refl }
 
 -- blocks of purges were freed, or a call failed
 pub freed_adds : (o o' : Owned) (bs : List ℕ) (failed : Option ℕ) → (failed ≡ None → Freed o o' bs) → ((f : ℕ) → failed ≡ Some f → o' ≡ o) → o'.adds ≡ o.adds
@@ -160,10 +169,10 @@ all_data g o p bs grown = grows_so o p _ _ (λ d more same. same_all g d more bs
 
 -- ---- a sync
 
-pub ordered_sync : (n n' : Noted) (o o' : Owned) (s s' : Stored) (who : Who) (q : Reply) (calls : ℕ) → n' ≡ noted n who Sync (Some q) calls → s'.geometry ≡ s.geometry → o'.adds ≡ o.adds → o'.nodes ≡ o.nodes → Grows s.told s'.told (λ d more. SameData s.geometry d more) → Ordered n.history o s → Ordered n'.history o' s'
-ordered_sync n n' o o' s s' who q calls is geometry adds nodes stays old =
+pub ordered_sync : (n n' : Noted) (o o' : Owned) (s s' : Stored) (who : Who) (q : Reply) (calls : ℕ) → n' ≡ noted n who Sync (Some q) calls → s'.geometry ≡ s.geometry → s'.began ≡ s.began → ((r : Digest) (places : List ℕ) → find s'.placed r ≡ Some places → find s.placed r ≡ Some places) → o'.adds ≡ o.adds → o'.nodes ≡ o.nodes → Grows s.told s'.told (λ d more. SameData s.geometry d more) → Ordered n.history o s → Ordered n'.history o' s'
+ordered_sync n n' o o' s s' who q calls is geometry began less adds nodes stays old =
     subst (λ (m : Noted). Ordered m.history o' s') (sym is)
-    (ordered_idle n.history o o' s s' (event_of who Sync q calls) old geometry (λ d more. SameData s.geometry d more) stays tt (λ w. w.0) refl refl
+    (ordered_idle n.history o o' s s' (event_of who Sync q calls) old geometry (λ d more. SameData s.geometry d more) stays tt (located_quiet n.history s s' (event_of who Sync q calls) (λ d more. SameData s.geometry d more) geometry began stays old.puts refl less old.located) (λ w. w.0) refl refl
     (λ r. record {
       blocks = ap (λ (es : List (Digest × Vec ℕ)). find es r) adds;
       nodes = ap (λ (es : List (Digest × ℕ)). find es r) nodes;
@@ -199,18 +208,31 @@ module _ (n : Noted) (next : ℕ) (t : Tables) (o : Owned) (s : Stored) (Both : 
         nodes = w.aside;
       }
 
+  -- all of its blocks were put
+  whole : (bs cs : List ℕ) → length (bs ++ cs) ≡ length bs → bs ++ cs ≡ bs
+  whole bs [] same = append-nil bs
+  whole bs (c ∷ cs) same = absurd (omega (arith, same, length-append bs (c ∷ cs)))
+
+  all_done : (a : Admitted) (is : HasAdmitted n.history x a) → a.put ≡ need_of n.history.version a.size → (works a is).blocks.items ≡ (works a is).done
+  all_done a is put =
+      let w = works a is in
+      w.parts ∙ whole w.done w.rest (omega (arith, w.count, w.need, put, ap (λ (bs : List ℕ). length bs) w.parts))
+
+  pub put_wrote : (a : Admitted) → HasAdmitted n.history x a → a.put ≡ need_of n.history.version a.size → (blocks : Vec ℕ) → find o.adds a.root ≡ Some blocks → IfSome s.told (λ d. AreWrites s.geometry d (puts_of (events_of x n.history.events)) blocks.items)
+  put_wrote a is put blocks has =
+      let w = works a is in
+      let both : Some w.blocks ≡ Some blocks = sym w.has ∙ has in
+      let same : w.blocks ≡ blocks = cc in
+      subst (λ (bs : List ℕ). IfSome s.told (λ d. AreWrites s.geometry d (puts_of (events_of x n.history.events)) bs)) (sym (all_done a is put) ∙ ap (λ (v : Vec ℕ). v.items) same) w.wrote
+
   pub put_is : (a : Admitted) → HasAdmitted n.history x a → HasPut (seen_of n next t o s) x a → IsPut (seen_of n next t o s) a
   put_is a is put = record { all = put.all; there = rw (w.has) (go s.told w.wrote put.there) }
     where
       w : Works n.history.version o.adds o.nodes s.geometry s.told (puts_of (events_of x n.history.events)) (its a)
       w = works a is
 
-      whole : (bs cs : List ℕ) → length (bs ++ cs) ≡ length bs → bs ++ cs ≡ bs
-      whole bs [] same = append-nil bs
-      whole bs (c ∷ cs) same = absurd (omega (arith, same, length-append bs (c ∷ cs)))
-
       all : w.blocks.items ≡ w.done
-      all = w.parts ∙ whole w.done w.rest (omega (arith, w.count, w.need, put.all, ap (λ (bs : List ℕ). length bs) w.parts))
+      all = all_done a is put.all
 
       go : (told : Option Disk) → IfSome told (λ d. AreWrites s.geometry d (puts_of (events_of x n.history.events)) w.done) → IfSome told (λ d. IsBlobOf n.history.version a.root a.size (blocks_written d.trace (events_of x n.history.events)))
           → IfSome told (λ d. IsBlobOf n.history.version a.root a.size (blocks_on s.geometry d w.blocks.items))
@@ -220,13 +242,13 @@ module _ (n : Noted) (next : ℕ) (t : Tables) (o : Owned) (s : Stored) (Both : 
           (writes_bytes s.geometry d (puts_of (events_of x n.history.events)) w.done wrote ∙ ap (λ (bs : List ℕ). blocks_on s.geometry d bs) (sym all)) there
 
   -- an add that ends
-  pub ordered_ends : (n' : Noted) (o' : Owned) (s' : Stored) (who : Who) (act : Act) (q : Reply) (calls : ℕ) (a : OwnAdd) → who.session ≡ x → own_add n.history x ≡ Some a → n' ≡ noted n who act (Some q) calls → s'.geometry ≡ s.geometry → IsInOrder (Some a) act q → ¬ IsWritten (event_of who act q calls) → add_after (Some a) act q ≡ None → o'.adds ≡ without o.adds a.root → o'.nodes ≡ without o.nodes a.root
+  pub ordered_ends : (n' : Noted) (o' : Owned) (s' : Stored) (who : Who) (act : Act) (q : Reply) (calls : ℕ) (a : OwnAdd) → who.session ≡ x → own_add n.history x ≡ Some a → n' ≡ noted n who act (Some q) calls → s'.geometry ≡ s.geometry → IsInOrder (Some a) act q → LocatedIn (with_event n.history (event_of who act q calls)) s' → ¬ IsWritten (event_of who act q calls) → add_after (Some a) act q ≡ None → o'.adds ≡ without o.adds a.root → o'.nodes ≡ without o.nodes a.root
       → Grows s.told s'.told (λ d more. SameData s.geometry d more) → Ordered n'.history o' s'
-  ordered_ends n' o' s' who act q calls a me is noted_is geometry order none gone adds nodes stays =
+  ordered_ends n' o' s' who act q calls a me is noted_is geometry order located none gone adds nodes stays =
       let mine : own_add n.history who.session ≡ Some a = ap (λ (y : ℕ). own_add n.history y) me ∙ is in
       subst (λ (m : Noted). Ordered m.history o' s') (sym noted_is)
       (ordered_after n.history o o' s s' (event_of who act q calls) old geometry (λ d more. SameData s.geometry d more) stays
-      (subst (λ (add : Option OwnAdd). IsInOrder add act q) (sym mine) order) (not_put s'.told (event_of who act q calls) none)
+      (subst (λ (add : Option OwnAdd). IsInOrder add act q) (sym mine) order) located (not_put s'.told (event_of who act q calls) none)
       (λ b now. let never : Some b ≡ None = sym now ∙ ap (λ (add : Option OwnAdd). add_after add act q) mine ∙ gone in absurd (cc))
       (λ y b other its.
       let apart : ¬ (a.root ≡ b.root) = agrees.apart who.session y a b other mine its in
@@ -237,15 +259,16 @@ module _ (n : Noted) (next : ℕ) (t : Tables) (o : Owned) (s : Stored) (Both : 
       }))
 
   -- one that was retired, or refused
-  pub ordered_ended : (n' : Noted) (o' : Owned) (who : Who) (act : Act) (q : Reply) (calls : ℕ) (a : OwnAdd) → who.session ≡ x → own_add n.history x ≡ Some a → n' ≡ noted n who act (Some q) calls → IsInOrder (Some a) act q → ¬ IsWritten (event_of who act q calls) → add_after (Some a) act q ≡ None → o'.adds ≡ without o.adds a.root → o'.nodes ≡ without o.nodes a.root → Ordered n'.history o' s
-  ordered_ended n' o' who act q calls a me is noted_is order none gone adds nodes =
-      ordered_ends n' o' s who act q calls a me is noted_is refl order none gone adds nodes (same_data s.geometry s.told)
+  pub ordered_ended : (n' : Noted) (o' : Owned) (who : Who) (act : Act) (q : Reply) (calls : ℕ) (a : OwnAdd) → who.session ≡ x → own_add n.history x ≡ Some a → n' ≡ noted n who act (Some q) calls → IsInOrder (Some a) act q → ¬ IsWritten (event_of who act q calls) → was_published act q ≡ false → add_after (Some a) act q ≡ None → o'.adds ≡ without o.adds a.root → o'.nodes ≡ without o.nodes a.root → Ordered n'.history o' s
+  ordered_ended n' o' who act q calls a me is noted_is order none unpublished gone adds nodes =
+      ordered_ends n' o' s who act q calls a me is noted_is refl order
+      (located_quiet n.history s s (event_of who act q calls) (λ d more. Unit {0}) refl refl (grows_by_none s.told) old.puts unpublished (λ r places there. there) old.located) none gone adds nodes (same_data s.geometry s.told)
 
   -- an add that was admitted, or that has no nodes
   pub ordered_admit : (n' : Noted) (mid o' : Owned) (who : Who) (r : Digest) (size free count calls : ℕ) (res : Result (Unit {0}) NoNodes) → who.session ≡ x → own_add n.history x ≡ Some (new_add r size) → n' ≡ noted n who (Admit r) (Some (admit_reply res)) calls → mid ≡ record o { nodes = insert_entry digest_cmp o.nodes r 0 } → find o.nodes r ≡ None → count ≡ need_of n.history.version size
       → OnOk res (Admitting mid o' r free count) → OnErr res (Ending mid o' r count) → Ordered n'.history o' s
   ordered_admit n' mid o' who r size free count calls (Err e) me is noted_is marked unset need ok err =
-      ordered_ended n' o' who (Admit r) (replies.NoNodes e.need e.free) calls (new_add r size) me is noted_is refl (λ w. w.0) refl
+      ordered_ended n' o' who (Admit r) (replies.NoNodes e.need e.free) calls (new_add r size) me is noted_is refl (λ w. w.0) refl refl
       (ap (λ (y : Owned). y.adds) err.is ∙ ap (λ (y : Owned). without y.adds r) marked)
       (ap (λ (y : Owned). y.nodes) err.is ∙ ap (λ (y : Owned). without y.nodes r) marked ∙ put_back o.nodes r 0 unset ∙ sym (less_none o.nodes r unset))
   ordered_admit n' mid o' who r size free count calls (Ok v) me is noted_is marked unset need m err =
@@ -266,7 +289,8 @@ module _ (n : Noted) (next : ℕ) (t : Tables) (o : Owned) (s : Stored) (Both : 
       } in
       subst (λ (y : Noted). Ordered y.history o' s) (sym noted_is)
       (ordered_after n.history o o' s s (event_of who (Admit r) replies.Admitted calls) old refl (λ d more. Unit {0}) (grows_by_none s.told)
-      (subst (λ (add : Option OwnAdd). IsInOrder add (Admit r) replies.Admitted) (sym mine) refl) (not_put s.told (event_of who (Admit r) replies.Admitted calls) (λ w. w.0))
+      (subst (λ (add : Option OwnAdd). IsInOrder add (Admit r) replies.Admitted) (sym mine) refl)
+      (located_quiet n.history s s (event_of who (Admit r) replies.Admitted calls) (λ d more. Unit {0}) refl refl (grows_by_none s.told) old.puts refl (λ y places there. there) old.located) (not_put s.told (event_of who (Admit r) replies.Admitted calls) (λ w. w.0))
       (λ b now.
       let both : Some (admitted_add (new_add r size)) ≡ Some b = sym (ap (λ (add : Option OwnAdd). add_after add (Admit r) replies.Admitted) mine) ∙ now in
       let same : admitted_add (new_add r size) ≡ b = cc in
@@ -297,11 +321,11 @@ module _ (n : Noted) (next : ℕ) (t new : Tables) (o o' : Owned) (s : Stored) (
   none_yet fresh (Some a) is same = absurd (foreign fresh who.session a is same)
 
   refused : (f : BeginFault) → IfSome (begin_reply {T = Grant} (Err f)) (TakesNone (Begin r size))
-  refused (beginning.Stopped f) = record { order = λ add. tt; add = λ add. refl; puts = λ puts calls. refl; unput = λ who calls w. w.0 }
-  refused beginning.Exists = record { order = λ add. tt; add = λ add. refl; puts = λ puts calls. refl; unput = λ who calls w. w.0 }
-  refused (beginning.Leaving h) = record { order = λ add. tt; add = λ add. refl; puts = λ puts calls. refl; unput = λ who calls w. w.0 }
-  refused beginning.InFlight = record { order = λ add. tt; add = λ add. refl; puts = λ puts calls. refl; unput = λ who calls w. w.0 }
-  refused (beginning.NoSpace a b) = record { order = λ add. tt; add = λ add. refl; puts = λ puts calls. refl; unput = λ who calls w. w.0 }
+  refused (beginning.Stopped f) = record { order = λ add. tt; add = λ add. refl; puts = λ puts calls. refl; unput = λ who calls w. w.0; unpublished = refl }
+  refused beginning.Exists = record { order = λ add. tt; add = λ add. refl; puts = λ puts calls. refl; unput = λ who calls w. w.0; unpublished = refl }
+  refused (beginning.Leaving h) = record { order = λ add. tt; add = λ add. refl; puts = λ puts calls. refl; unput = λ who calls w. w.0; unpublished = refl }
+  refused beginning.InFlight = record { order = λ add. tt; add = λ add. refl; puts = λ puts calls. refl; unput = λ who calls w. w.0; unpublished = refl }
+  refused (beginning.NoSpace a b) = record { order = λ add. tt; add = λ add. refl; puts = λ puts calls. refl; unput = λ who calls w. w.0; unpublished = refl }
   refused beginning.NoMemory = tt
 
   granted : Begins t new o o' r size → Ordered (with_event n.history (event_of who (Begin r size) replies.Granted calls)) o' s
@@ -316,7 +340,8 @@ module _ (n : Noted) (next : ℕ) (t new : Tables) (o o' : Owned) (s : Stored) (
         unset = ap (λ (es : List (Digest × ℕ)). find es r) now_nodes ∙ unset t o s noded r b.tables.fresh;
       } in
       ordered_after n.history o o' s s (event_of who (Begin r size) replies.Granted calls) old refl (λ d more. Unit {0}) (grows_by_none s.told)
-      (none_yet b.tables.fresh (own_add n.history who.session) refl may) (not_put s.told (event_of who (Begin r size) replies.Granted calls) (λ w. w.0))
+      (none_yet b.tables.fresh (own_add n.history who.session) refl may)
+      (located_quiet n.history s s (event_of who (Begin r size) replies.Granted calls) (λ d more. Unit {0}) refl refl (grows_by_none s.told) old.puts refl (λ y places there. there) old.located) (not_put s.told (event_of who (Begin r size) replies.Granted calls) (λ w. w.0))
       (λ a now. let same : new_add r size ≡ a = cc in subst (λ (y : OwnAdd). Stands y.admitted n.history.version o'.adds o'.nodes s.geometry s.told (puts_of (events_of who.session n.history.events)) y) same waits)
       (λ y a other its.
       keeps_unwritten o o' s s.faults a.root

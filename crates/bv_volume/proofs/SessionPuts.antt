@@ -1,8 +1,8 @@
 -- The adds of sessions: what a put makes of them.
-use Rattle.std.proofs.Common.{◌≡◌, ◌≢◌, ◌<◌, ◌≤◌, ◌+◌, ◌==◌, ◌∷◌, ◌++◌, [], ℕ, suc, Bool, true, false, get_or, List, length, Option, None, Some, IfSome, IsSomeAnd, refl, ap, sym, ◌∙◌, subst, arith, append_assoc, if◌then◌else◌}
+use Rattle.std.proofs.Common.{◌≡◌, ◌≢◌, ◌<◌, ◌+◌, ◌==◌, ◌∷◌, ◌++◌, [], ℕ, suc, Bool, true, false, get_or, List, length, Option, None, Some, IfSome, IsSomeAnd, refl, ap, sym, ◌∙◌, subst, arith, append_assoc, if◌then◌else◌}
 use Rattle.std.specs.Global.{Vec}
-use Rattle.std.proofs.lemmas.Bool.{eqb-true, eqb-false}
-use Rattle.std.proofs.lemmas.List.{append-nil, length-append, get_or-set_same, get_or-set_other}
+use Rattle.std.proofs.lemmas.Bool.{eqb-false}
+use Rattle.std.proofs.lemmas.List.{length-append, get_or-set_same, get_or-set_other}
 use Rattle.spec_disk.specs.Disk.{block}
 use Rattle.spec_disk.specs.declared.event.Event.{Event}
 use Rattle.spec_disk.specs.declared.event.Event.TheVariants as device
@@ -31,10 +31,12 @@ use Rattle.bv_ledger.proofs.Sums.{sum_less}
 use Rattle.bv_store.specs.Stored.{Stored, Grows}
 use Rattle.bv_volume.specs.Events.{event_of, noted}
 use Rattle.bv_volume.specs.Kept.{Kept}
-use Rattle.bv_volume.specs.Sessions.{AreWrites, HasAdmitted, Ordered, Stands, Works, own_add, puts_of}
+use Rattle.bv_volume.specs.Sessions.{AreWrites, HasAdmitted, Ordered, Stands, Works}
+use Rattle.spec_served.specs.Adds.{puts_of}
 use Rattle.bv_volume.specs.Spaced.{Spaced}
 use Rattle.bv_volume.specs.declared.tokens.Admitted.{Admitted}
 use Rattle.bv_volume.proofs.Counting.{grows_so}
+use Rattle.bv_volume.proofs.Located.{located_quiet}
 use Rattle.bv_volume.proofs.SessionCalls.{agrees, find_less, its, works}
 use Rattle.bv_volume.proofs.Sessions.{SameAt, event_last, not_put, ordered_after, works_on, writes_kept, writes_push}
 use Rattle.bv_volume.proofs.Syncs.{in_disk, on_disk}
@@ -78,7 +80,10 @@ now_there d at bytes b other =
 
 -- ---- a put
 
-module _ (n n' : Noted) (next : ℕ) (t : Tables) (o : Owned) (s s' : Stored) (Both : Map → Map → Type 0) (Held : ℕ → Type 0) (who : Who) (a : Admitted) (kept : Kept n next t s Both) (spaced : Spaced t o s Held) (old : Ordered n.history o s) (mine : HasAdmitted n.history who.session a) (geometry : s'.geometry ≡ s.geometry) where
+module _ (n n' : Noted) (next : ℕ) (t : Tables) (o : Owned) (s s' : Stored) (Both : Map → Map → Type 0) (Held : ℕ → Type 0) (who : Who) (a : Admitted) (kept : Kept n next t s Both) (spaced : Spaced t o s Held) (old : Ordered n.history o s) (mine : HasAdmitted n.history who.session a) (geometry : s'.geometry ≡ s.geometry) (began : s'.began ≡ s.began) (placed : s'.placed ≡ s.placed) where
+  less : (r : Digest) (places : List ℕ) → find s'.placed r ≡ Some places → find s.placed r ≡ Some places
+  less r places there = ap (λ (es : List (Digest × List ℕ)). find es r) (sym placed) ∙ there
+
   abbrev its_works : Works n.history.version o.adds o.nodes s.geometry s.told (puts_of (events_of who.session n.history.events)) (its n next t o s Both who.session kept old a)
   its_works = works n next t o s Both who.session kept old a mine
 
@@ -173,7 +178,7 @@ module _ (n n' : Noted) (next : ℕ) (t : Tables) (o : Owned) (s s' : Stored) (B
             wrote = wrote_on bytes calls s.told s'.told (wrote refl) its_works.wrote old.room lies counted;
           } in
           subst (λ (m : Noted). Ordered m.history o s') (sym is)
-          (ordered_after n.history o o s s' (event_of who (Put index) replies.Written calls) old geometry Apart apart tt (written_put index bytes calls s.told s'.told (wrote refl) counted)
+          (ordered_after n.history o o s s' (event_of who (Put index) replies.Written calls) old geometry Apart apart tt (located_quiet n.history s s' (event_of who (Put index) replies.Written calls) Apart geometry began apart old.puts refl less old.located) (written_put index bytes calls s.told s'.told (wrote refl) counted)
           (λ b after.
           let both : Some (put_add this) ≡ Some b = sym (ap (λ (add : Option OwnAdd). add_after add (Put index) replies.Written) mine) ∙ after in
           let same : put_add this ≡ b = cc in
@@ -182,7 +187,7 @@ module _ (n n' : Noted) (next : ℕ) (t : Tables) (o : Owned) (s s' : Stored) (B
       ordered_put index calls (Some f) bytes is wrote lies counted =
           let now : Works n.history.version o.adds o.nodes s'.geometry s'.told puts this = works_on n.history.version o o s s' puts this geometry refl refl its_works (but its_works.done unput) in
           subst (λ (m : Noted). Ordered m.history o s') (sym is)
-          (ordered_after n.history o o s s' (event_of who (Put index) (replies.DeviceFault f) calls) old geometry Apart apart tt (not_put s'.told (event_of who (Put index) (replies.DeviceFault f) calls) (λ w. cc))
+          (ordered_after n.history o o s s' (event_of who (Put index) (replies.DeviceFault f) calls) old geometry Apart apart tt (located_quiet n.history s s' (event_of who (Put index) (replies.DeviceFault f) calls) Apart geometry began apart old.puts refl less old.located) (not_put s'.told (event_of who (Put index) (replies.DeviceFault f) calls) (λ w. cc))
           (λ b after.
           let both : Some this ≡ Some b = sym mine ∙ after in
           let same : this ≡ b = cc in

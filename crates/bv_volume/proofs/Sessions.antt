@@ -1,5 +1,5 @@
 -- The adds of sessions: what an event makes of them.
-use Rattle.std.proofs.Common.{◌≡◌, ◌<◌, ◌≢◌, ℕ, zero, suc, ◌+◌, ◌==◌, ◌∷◌, ◌++◌, [], Bool, true, false, cond, List, length, map, is_some, slice_get, Option, None, Some, IfSome, IsSomeAnd, refl, ap, sym, ◌∙◌, subst, arith, append_assoc, eq-eqb}
+use Rattle.std.proofs.Common.{◌≡◌, ◌<◌, ℕ, zero, suc, ◌==◌, ◌∷◌, ◌++◌, [], Bool, true, false, cond, List, length, map, is_some, slice_get, Option, None, Some, IfSome, IsSomeAnd, refl, ap, sym, ◌∙◌, subst, append_assoc, eq-eqb}
 use Rattle.std.specs.Global.{Vec}
 use Rattle.std.proofs.lemmas.Bool.{eqb-true, eqb-false}
 use Rattle.std.proofs.lemmas.List.{append-nil}
@@ -12,9 +12,7 @@ use Rattle.spec_record.specs.declared.geometry.Geometry.{Geometry}
 use Rattle.spec_tree.specs.declared.Digest.{Digest}
 use Rattle.spec_core.specs.History.{History, with_event}
 use Rattle.spec_core.specs.State.{find}
-use Rattle.spec_core.specs.declared.act.Act.{Act}
 use Rattle.spec_core.specs.declared.event.CoreEvent.{CoreEvent}
-use Rattle.spec_core.specs.declared.reply.Reply.{Reply}
 use Rattle.spec_crash.specs.Timing.{event_at, IsOkWrite, IsWritten}
 use Rattle.spec_session.specs.Conform.{events_of}
 use Rattle.spec_session.specs.Own.{OwnAdd, add_after, add_from, add_of}
@@ -24,7 +22,9 @@ use Rattle.bv_space.specs.Owned.{Owned}
 use Rattle.bv_store.specs.Stored.{Stored, Grows}
 use Rattle.bv_volume.proofs.Counting.{grows_so}
 use Rattle.bv_volume.proofs.Syncs.{in_disk, on_disk}
-use Rattle.bv_volume.specs.Sessions.{AllStand, AreWrites, Ordered, PutsAreWrites, Stands, Waits, Works, bytes_of, own_add, puts_after, puts_from, puts_of}
+use Rattle.bv_volume.specs.Located.{Located}
+use Rattle.bv_volume.specs.Sessions.{AreWrites, Ordered, PutsAreWrites, Stands, Works, bytes_of, own_add}
+use Rattle.spec_served.specs.Adds.{puts_after, puts_from, puts_of}
 
 -- ---- what puts wrote
 
@@ -33,7 +33,7 @@ slice_more [] more k x is = absurd (cc)
 slice_more (y ∷ events) more zero x is = is
 slice_more (y ∷ events) more (suc k) x is = slice_more events more k x is
 
-event_more : (events more : List Event) (n : ℕ) (x : Event) → event_at events n ≡ Some x → event_at (events ++ more) n ≡ Some x
+pub event_more : (events more : List Event) (n : ℕ) (x : Event) → event_at events n ≡ Some x → event_at (events ++ more) n ≡ Some x
 event_more events more zero x is = absurd (cc)
 event_more events more (suc k) x is = slice_more events more k x is
 
@@ -217,18 +217,19 @@ module _ (h : History) (o o' : Owned) (s s' : Stored) (e : CoreEvent) (old : Ord
       subst (λ (es : List CoreEvent). Stands a.admitted h.version o'.adds o'.nodes s'.geometry s'.told (puts_of es) a) (sym same)
       (kept_stands h.version o o' s s' (puts_of (events_of x h.events)) a a.admitted geometry (others x a (eqb-false session x other) was) (old.each x a was))
 
-  pub ordered_after : IsInOrder mine e.act e.reply → IfSome s'.told (λ d. IsWritten e → IsSomeAnd (event_at d.trace e.calls) IsOkWrite) → OwnStands → ((x : ℕ) (a : OwnAdd) → ¬ (session ≡ x) → own_add h x ≡ Some a → Keeps o o' s s' a.root) → Ordered (with_event h e) o' s'
-  ordered_after order put own others = record {
+  pub ordered_after : IsInOrder mine e.act e.reply → Located (with_event h e) s'.geometry s'.began s'.told s'.placed → IfSome s'.told (λ d. IsWritten e → IsSomeAnd (event_at d.trace e.calls) IsOkWrite) → OwnStands → ((x : ℕ) (a : OwnAdd) → ¬ (session ≡ x) → own_add h x ≡ Some a → Keeps o o' s s' a.root) → Ordered (with_event h e) o' s'
+  ordered_after order located put own others = record {
     order = in_order_more [] h.events e old.order order;
     each = λ x a is. by_session own others x a (session == x) refl is;
     room = room_kept s.geometry s'.geometry P s.told s'.told geometry grows old.room;
     puts = told_puts P s.told s'.told h.events e grows old.puts put;
+    located = located;
   }
 
   -- an event that leaves the session's add as it is too
-  pub ordered_idle : IsInOrder mine e.act e.reply → ¬ IsWritten e → add_after mine e.act e.reply ≡ mine → puts_after puts e.act e.reply e.calls ≡ puts → ((r : Digest) → Keeps o o' s s' r) → Ordered (with_event h e) o' s'
-  ordered_idle order none same_add same_puts keeps =
-      ordered_after order (not_put s'.told e none)
+  pub ordered_idle : IsInOrder mine e.act e.reply → Located (with_event h e) s'.geometry s'.began s'.told s'.placed → ¬ IsWritten e → add_after mine e.act e.reply ≡ mine → puts_after puts e.act e.reply e.calls ≡ puts → ((r : Digest) → Keeps o o' s s' r) → Ordered (with_event h e) o' s'
+  ordered_idle order located none same_add same_puts keeps =
+      ordered_after order located (not_put s'.told e none)
       (λ a is. let was : mine ≡ Some a = sym same_add ∙ is in
       subst (λ (cs : List ℕ). Stands a.admitted h.version o'.adds o'.nodes s'.geometry s'.told cs a) (sym same_puts)
       (kept_stands h.version o o' s s' puts a a.admitted geometry (keeps a.root) (old.each session a was)))

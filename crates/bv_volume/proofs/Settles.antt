@@ -1,9 +1,8 @@
 -- An add is published: the tables and the space go on together.
-use Rattle.std.proofs.Common.{◌≡◌, ◌≤◌, ◌<◌, ◌⊎◌, inl, inr, ℕ, ◌+◌, ◌-◌, ◌++◌, ◌∷◌, [], Bool, true, false, cond, is_some, sum, List, length, Option, Some, None, refl, ap, sym, ◌∙◌, subst, arith}
-use Rattle.std.specs.BTreeMap.{insert_entry, is_at}
+use Rattle.std.proofs.Common.{◌≡◌, ◌≤◌, ◌<◌, ◌⊎◌, inl, inr, ℕ, ◌+◌, ◌++◌, ◌∷◌, [], Bool, true, false, cond, List, length, Option, Some, None, ap, sym, ◌∙◌, arith}
+use Rattle.std.specs.BTreeMap.{insert_entry}
 use Rattle.std.specs.Global.{Vec}
 use Rattle.std.specs.List.{sum_by, Contains}
-use Rattle.std.specs.Map.{values_of}
 use Rattle.std.proofs.lemmas.List.{length-append}
 use Rattle.std.proofs.lemmas.List.Sums.{sum_by-append, sum_by-cons}
 use Rattle.spec_tree.specs.Order.{digest_cmp, same_digest}
@@ -25,16 +24,15 @@ use Rattle.spec_rest.specs.Rest.{Map}
 use Rattle.bv_claims.specs.Blocks.{times}
 use Rattle.bv_claims.proofs.Counts.{times-append}
 use Rattle.bv_model.specs.Sole.{Sole}
-use Rattle.bv_model.proofs.Adds.{sole-insert, sole-without, sole-purges, find-purged_none}
+use Rattle.bv_model.proofs.Adds.{sole-insert, sole-without, find-purged_none}
 use Rattle.bv_model.proofs.Takings.{purged-need}
 use Rattle.bv_space.specs.Owned.{Owned, times_in}
-use Rattle.bv_ledger.specs.Answers.{device_reply}
 use Rattle.bv_ledger.specs.Tables as L
 use Rattle.bv_ledger.specs.Tables.{Tables, Accounts}
 use Rattle.bv_ledger.proofs.Rows.{purged_more}
 use Rattle.bv_ledger.proofs.Sums.{sum_less, sum_more}
 use Rattle.bv_store.specs.Stored.{Stored, placed_without}
-use Rattle.bv_volume.specs.Spaced.{times_placed, nodes_at, HasSpace, SpaceAt, NodesAt, LiesAt, LieAll, Exactly, Handed, Noded, Spaced}
+use Rattle.bv_volume.specs.Spaced.{times_placed, nodes_at, LiesAt, LieAll, Handed, Noded, Spaced}
 use Rattle.bv_volume.proofs.Adds.{noded_ends, nodes_less, space_less, sum_entries}
 use Rattle.bv_volume.proofs.Freed.{counted}
 use Rattle.bv_volume.proofs.Placed.{Places, taken_from, lie_purged, sole_placed, taken_need, times_purged, find_other}

@@ -1,15 +1,15 @@
 -- Events after which the blobs are where they were: the space stays right.
-use Rattle.std.proofs.Common.{◌≡◌, ◌≤◌, ◌+◌, ℕ, length, drop, arith, Bool, true, false, cond, not, ◌&&◌, ◌||◌, Option, Some, None, List, [], ◌∷◌, ◌++◌, refl, ap, sym, ◌∙◌}
+use Rattle.std.proofs.Common.{◌≡◌, ◌≤◌, ℕ, drop, arith, Bool, true, false, cond, not, ◌&&◌, Option, Some, None, List, [], ◌∷◌, ◌++◌, refl, ap, sym, ◌∙◌}
 use Rattle.std.specs.BTreeMap.{is_at}
 use Rattle.std.specs.BTreeSet.{insert_key}
-use Rattle.std.specs.List.{sum_by, list_any}
+use Rattle.std.specs.List.{sum_by}
 use Rattle.std.specs.Map.{remove_entry}
 use Rattle.std.specs.Set.{remove_key}
 use Rattle.std.proofs.lemmas.List.Folds.{list_any-append}
 use Rattle.spec_tree.specs.declared.Digest.{Digest}
 use Rattle.spec_tree.specs.declared.blob.Blob.{Blob}
 use Rattle.spec_tree.specs.Order.{digest_cmp, same_digest}
-use Rattle.spec_core.specs.Change.{change, add_ends, begun, admitted, put_done, blob_of, settled, opened, let_go, emptied, closed, unlinked, sync_done, slots_emptied, unmount_done}
+use Rattle.spec_core.specs.Change.{change, begun, admitted, put_done, blob_of, settled, opened, let_go, emptied, closed, unlinked, sync_done, slots_emptied, unmount_done}
 use Rattle.spec_core.specs.Choice.{place_of}
 use Rattle.spec_core.specs.Order.{place_cmp}
 use Rattle.spec_core.specs.Room.{purge_need}
@@ -19,7 +19,7 @@ use Rattle.spec_core.specs.declared.act.Act.TheVariants.{Begin, Admit, Put, Sett
 use Rattle.spec_core.specs.declared.map_change.MapChange.{MapChange}
 use Rattle.spec_core.specs.declared.place.Place.{Place}
 use Rattle.spec_core.specs.declared.reply.Reply.{Reply}
-use Rattle.spec_core.specs.declared.reply.Reply.TheVariants.{Granted, Admitted, Written, Published, Opened, Closed, Unlinked, Synced, Unmounted, DeviceFault}
+use Rattle.spec_core.specs.declared.reply.Reply.TheVariants.{Granted, Admitted, Published, Opened, Closed, Unlinked, Synced, Unmounted, DeviceFault}
 use Rattle.spec_core.specs.declared.setting.Setting.{Setting}
 use Rattle.spec_core.specs.declared.who.Who.{Who}
 use Rattle.spec_core.proofs.Holding.{or_false}

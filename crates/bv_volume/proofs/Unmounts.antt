@@ -1,5 +1,5 @@
 -- An unmount, from what it did to the device to its event.
-use Rattle.std.proofs.Common.{◌≡◌, ◌≤◌, ℕ, ◌+◌, ◌-◌, ◌++◌, [], cond, List, length, Option, Some, None, Result, Ok, Err, IfSome, OnOk, refl, ap, sym, ◌∙◌, subst, arith}
+use Rattle.std.proofs.Common.{◌≡◌, ◌≤◌, ℕ, ◌+◌, ◌-◌, ◌++◌, [], cond, List, length, Option, Some, None, Result, Ok, Err, IfSome, OnOk, refl, ap, sym, subst, arith}
 use Rattle.spec_disk.specs.Images.{IsSettled}
 use Rattle.spec_tree.specs.declared.Digest.{Digest}
 use Rattle.spec_core.specs.Choice.{is_empty}
@@ -19,7 +19,7 @@ use Rattle.bv_ledger.specs.declared.faults.Refusal.{Refusal}
 use Rattle.bv_ledger.specs.declared.faults.Refusal.TheVariants as refusal
 use Rattle.bv_ledger.specs.Tables as L
 use Rattle.bv_ledger.specs.Tables.{Tables}
-use Rattle.bv_store.specs.Stored.{Stored, Entry}
+use Rattle.bv_store.specs.Stored.{Stored}
 use Rattle.bv_volume.specs.Answers.{unmount_reply}
 use Rattle.bv_volume.specs.Ended.{AsksNothing, EndsMount, Unmounts, device_answer, refusal_answer}
 use Rattle.bv_volume.specs.Events.{Does, event_of, noted}
@@ -29,7 +29,7 @@ use Rattle.bv_volume.specs.Wrote.{Lasts}
 use Rattle.bv_volume.specs.declared.unmounting.UnmountFault.{UnmountFault}
 use Rattle.bv_volume.specs.declared.unmounting.UnmountFault.TheVariants as unmount
 use Rattle.bv_volume.proofs.Calls.{unmount_call}
-use Rattle.bv_volume.proofs.Silent.{CallDone, has_room, quiet_call}
+use Rattle.bv_volume.proofs.Silent.{has_room, quiet_call}
 use Rattle.bv_volume.proofs.Ties.{IsSilent, kept_planned, safe_of}
 
 -- the replies of the answers

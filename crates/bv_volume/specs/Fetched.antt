@@ -1,5 +1,6 @@
 -- What a fetch reads, and what it answers.
-use Rattle.std.specs.Prelude.{◌≡◌, ◌≤◌, ◌∷◌, [], ℕ, List, Option, None, Some, Result, Ok, Err, IfOk}
+use Rattle.std.specs.Prelude.{◌≡◌, ◌≤◌, ◌∷◌, [], ℕ, List, Option, None, Some, Result, Ok, Err, IfOk, IfSome}
+use Rattle.spec_disk.specs.Images.{IsSettled}
 use Rattle.spec_tree.specs.declared.Digest.{Digest}
 use Rattle.spec_tree.specs.declared.blob.Blob.{Blob}
 use Rattle.spec_core.specs.History.{last_state}
@@ -13,6 +14,8 @@ use Rattle.bv_fetch.specs.Reading.{SeesNow}
 use Rattle.bv_fetch.specs.Windows.{Holds, HasLengths}
 use Rattle.bv_proof.specs.declared.raw.RawWindow.{RawWindow}
 use Rattle.bv_store.specs.Stored.{Stored}
+use Rattle.spec_served.specs.Adds.{AreByLine}
+use Rattle.bv_volume.specs.Located.{LiesBy}
 use Rattle.bv_volume.specs.Seen.{Seen}
 use Rattle.bv_volume.specs.declared.fetching.FetchFault.{FetchFault}
 use Rattle.bv_volume.specs.declared.fetching.FetchFault.TheVariants as fetch
@@ -48,7 +51,7 @@ pub record HoldsBlob (v : Seen) (place : Place) (root : Digest) (size : ℕ) : T
   pub size_is : blob.size ≡ size
 
 -- the window is that of the blob that the place holds: it has the lengths that the blob's size
--- gives, and is what Now has at the blocks where the blob lies
+-- gives, and is what Now has at the blocks where the blob lies, which are those that the history says
 pub record HasFetched (v : Seen) (place : Place) (w : ℕ) (raw : RawWindow) : Type 0 where
   pub root : Digest
   pub holds : held (last_state v.history v.next).slots place ≡ Some root
@@ -56,5 +59,7 @@ pub record HasFetched (v : Seen) (place : Place) (w : ℕ) (raw : RawWindow) : T
   pub has : find (last_state v.history v.next).map root ≡ Some blob
   pub places : List ℕ
   pub lies : find v.store.placed root ≡ Some places
+  pub by : IfSome v.store.began (λ b. IsSettled b.trace → AreByLine [] v.history.events
+      → IfSome v.store.told (λ d. LiesBy v.store.geometry b d v.history root places))
   pub lengths : HasLengths blob.size w raw
   pub now : SeesNow v.store (Holds v.store.geometry places blob raw)

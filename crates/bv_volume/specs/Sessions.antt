@@ -10,19 +10,17 @@ use Rattle.spec_tree.specs.Tree.{need_of}
 use Rattle.spec_tree.specs.declared.Digest.{Digest}
 use Rattle.spec_core.specs.History.{History}
 use Rattle.spec_core.specs.State.{find}
-use Rattle.spec_core.specs.declared.act.Act.{Act}
-use Rattle.spec_core.specs.declared.act.Act.TheVariants as acts
 use Rattle.spec_core.specs.declared.event.CoreEvent.{CoreEvent}
-use Rattle.spec_core.specs.declared.reply.Reply.{Reply}
-use Rattle.spec_core.specs.declared.reply.Reply.TheVariants as replies
 use Rattle.spec_crash.specs.Timing.{event_at, IsOkWrite, IsWritten}
 use Rattle.spec_session.specs.Conform.{events_of}
 use Rattle.spec_session.specs.Own.{OwnAdd, add_of, new_add}
 use Rattle.spec_orderly.specs.Orderly.{AreInOrder}
+use Rattle.spec_served.specs.Adds.{puts_of}
 use Rattle.bv_device.specs.Told.{Disk, now_of}
 use Rattle.bv_space.specs.Owned.{Owned}
 use Rattle.bv_store.specs.Stored.{Stored}
 use Rattle.bv_writer.specs.Blocks.{IsBlobOf}
+use Rattle.bv_volume.specs.Located.{Located}
 use Rattle.bv_volume.specs.Seen.{Seen}
 use Rattle.bv_volume.specs.declared.tokens.Admitted.{Admitted}
 use Rattle.bv_volume.specs.declared.tokens.Begun.{Begun}
@@ -30,22 +28,6 @@ use Rattle.bv_volume.specs.declared.tokens.Begun.{Begun}
 -- the add that a session has under way
 abbrev pub own_add : History → ℕ → Option OwnAdd
 own_add h session = add_of (events_of session h.events)
-
--- how many calls the device had made as each put of a session's add ended, after an event, where
--- before it these were the numbers
-abbrev pub puts_after : List ℕ → Act → Reply → ℕ → List ℕ
-puts_after puts (acts.Admit r) reply calls = []
-puts_after puts (acts.Put index) replies.Written calls = puts ++ calls ∷ []
-puts_after puts act reply calls = puts
-
--- the same after these events
-abbrev pub puts_from : List ℕ → List CoreEvent → List ℕ
-puts_from puts [] = puts
-puts_from puts (e ∷ es) = puts_from (puts_after puts e.act e.reply e.calls) es
-
--- the same of a session with these events
-abbrev pub puts_of : List CoreEvent → List ℕ
-puts_of own = puts_from [] own
 
 -- the bytes that an event of the device wrote
 abbrev pub bytes_of : Option Event → List ℕ
@@ -125,15 +107,16 @@ Stands false version adds nodes g told puts a = Waits adds nodes a
 Stands true version adds nodes g told puts a = Works version adds nodes g told puts a
 
 -- each session takes its adds on in order, and the space has the blocks of each; a disk that is told
--- has all data blocks of the volume, and each put's write
+-- has all data blocks of the volume, and each put's write; and blobs lie where the history says
 pub record AllStand (h : History) (adds : List (Digest × Vec ℕ)) (nodes : List (Digest × ℕ))
-    (g : Geometry) (told : Option Disk) : Type 0 where
+    (g : Geometry) (began told : Option Disk) (placed : List (Digest × List ℕ)) : Type 0 where
   pub order : AreInOrder [] h.events
   pub each : (session : ℕ) (a : OwnAdd) → own_add h session ≡ Some a
       → Stands a.admitted h.version adds nodes g told (puts_of (events_of session h.events)) a
   pub room : IfSome told (λ d. (b : ℕ) → b < g.blocks → block_at g b < length d.base)
   pub puts : IfSome told (λ d. PutsAreWrites d.trace h.events)
+  pub located : Located h g began told placed
 
 -- the same of the parts of a volume
 abbrev pub Ordered : History → Owned → Stored → Type 0
-Ordered h o s = AllStand h o.adds o.nodes s.geometry s.told
+Ordered h o s = AllStand h o.adds o.nodes s.geometry s.began s.told s.placed

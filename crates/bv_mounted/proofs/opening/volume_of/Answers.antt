@@ -3,8 +3,8 @@ use Rattle.spec_image.specs.Chain.{BlobRecord}
 use Rattle.bv_claims.specs.Tokens.{block_count}
 use Rattle.bv_model.specs.Noted.{Noted}
 use Rattle.bv_mounted.specs.Mounts.{blocks_of_all, records_in}
+use Rattle.bv_mounted.proofs.LiesLemmas.{told_located}
 use Rattle.bv_mounted.proofs.OpenLemmas.{blobs_within, blobs_once, opening_same, opening_fits, opening_fresh}
-use Rattle.bv_mounted.proofs.ToldLemmas.{told_room}
 use Rattle.bv_mounted.proofs.opening.volume_of.Goals as goal
 
 pub space_of-space-requires-clause-within : goal.space_of-space-requires-clause-within
@@ -34,6 +34,6 @@ new-requires-clause-space g c =
     (c.space_of-space.ensures.room ∙ sym (ap block_count c.space_of-space.ensures.claims)))
     c.space_of-space.ensures.none
 
-pub new-requires-clause-room : goal.new-requires-clause-room
-new-requires-clause-room g c =
-    told_room c.args.inspected c.args.opened (g.D.Device.seen c.args.dev) c.args.taken.ring c.store_of-store.result c.store_of-store.ensures.value (g.met.D.Device.told_blocks c.args.dev) c.requires.total
+pub new-requires-clause-located : goal.new-requires-clause-located
+new-requires-clause-located g c =
+    told_located c.args.inspected c.args.opened (g.D.Device.seen c.args.dev) c.args.taken.ring c.store_of-store.result c.first_history-history.result.history c.store_of-store.ensures.value (ap (λ (n : Noted). n.history) c.first_history-history.ensures) c.requires.told

@@ -1,4 +1,4 @@
-use Rattle.std.proofs.Common.{◌≡◌, ◌-◌, ℕ, List, refl, ap, sym, ◌∙◌}
+use Rattle.std.proofs.Common.{◌≡◌, ◌-◌, ℕ, List, ap, ◌∙◌}
 use Rattle.std.specs.BTreeMap.{insert_entry}
 use Rattle.spec_tree.specs.Order.{digest_cmp}
 use Rattle.spec_tree.specs.Tree.{need_of}

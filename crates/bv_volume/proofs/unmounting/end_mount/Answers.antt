@@ -1,4 +1,4 @@
-use Rattle.std.proofs.Common.{◌≡◌, ◌++◌, ◌+◌, [], ◌⊎◌, ◌<◌, ◌^◌, cond, false, true, rules, List, Option, Some, None, refl, ap, sym, ◌∙◌, subst, arith}
+use Rattle.std.proofs.Common.{◌≡◌, ◌++◌, ◌+◌, [], false, rules, List, Some, None, refl, ap, sym, ◌∙◌, subst, arith}
 use Rattle.spec_tree.specs.declared.Digest.{Digest}
 use Rattle.spec_core.specs.Choice.{is_empty}
 use Rattle.spec_core.specs.Log.{purges}

@@ -1,5 +1,4 @@
-use Rattle.std.proofs.Common.{◌≡◌, ◌≤◌, ℕ, Some, None, Result, Ok, Err, IfOk, OnOk, OnErr, refl, ap, sym, ◌∙◌, subst, arith}
-use Rattle.spec_core.specs.State.{State}
+use Rattle.std.proofs.Common.{◌≡◌, ◌≤◌, ℕ, sym, subst, arith}
 use Rattle.spec_core.specs.declared.act.Act.TheVariants.{Begin}
 use Rattle.bv_ledger.specs.Answers as A
 use Rattle.spec_tree.specs.Tree.{need_of}

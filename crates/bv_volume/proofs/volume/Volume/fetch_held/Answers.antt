@@ -62,7 +62,7 @@ invariant_of-self g c =
       fetch_spaced i.ledger i.space (g.S.Store.seen i.store) (g.S.Store.seen c.read_from-answer.new.store) (g.S.Store.both i.store) (g.S.Store.both c.read_from-answer.new.store) (g.S.Store.held i.store) (g.S.Store.held c.read_from-answer.new.store) c.in-Ok.prepared.places.items c.args.blob c.args.window c.read_from-answer.result (read g c) c.self.invariant.1,
       subst (λ (x : Stored). Ordered c.note.new.history.history i.space x) (sym (read g c).rest)
           (ordered_silent i.history c.note.new.history i.space (g.S.Store.seen i.store) c.args.who (Fetch c.args.slot c.args.window) (fetch_reply c.read_from-answer.result) (g.S.Store.seen c.read_from-answer.new.store).calls (rw (c.fetch_reply-reply.ensures, c.calls.ensures) at c.note.ensures)
-          (by_any (Fetch c.args.slot c.args.window) (fetch_reply c.read_from-answer.result) (λ x. record { order = λ add. tt; add = λ add. refl; puts = λ puts calls. refl; unput = λ who calls w. w.0 })) c.self.invariant.2),
+          (by_any (Fetch c.args.slot c.args.window) (fetch_reply c.read_from-answer.result) (λ x. record { order = λ add. tt; add = λ add. refl; puts = λ puts calls. refl; unput = λ who calls w. w.0; unpublished = refl })) c.self.invariant.2),
     )
 
 pub returns-clause-row : goal.returns-clause-row
@@ -72,7 +72,7 @@ pub returns-clause-fetched : goal.returns-clause-fetched
 returns-clause-fetched g c =
     let i = c.self.inside in
     rw (← c.self.view_is) (fetched_is i.history i.first i.ledger i.space (g.S.Store.seen i.store) (g.S.Store.seen c.read_from-answer.new.store) (g.S.Store.both i.store) (g.S.Store.both c.read_from-answer.new.store) (g.S.Store.held i.store) (g.S.Store.held c.read_from-answer.new.store) (place_of c.args.who c.args.slot) c.args.root c.args.blob c.in-Ok.prepared.places.items c.args.window c.read_from-answer.result
-    (rw (← c.self.view_is) at c.requires.held) (rw (← c.self.view_is) at c.requires.blob) c.in-Ok.ensures.places (read g c))
+    (rw (← c.self.view_is) at c.requires.held) (rw (← c.self.view_is) at c.requires.blob) c.in-Ok.ensures.places c.self.invariant.2.located (read g c))
 
 pub returns-clause-crash : goal.returns-clause-crash
 returns-clause-crash g c = (done g c).safe

@@ -23,7 +23,7 @@ invariant_of-self g c =
       (done g c).kept,
       spaced_silent i.ledger i.ledger i.space (g.S.Store.seen i.store) (g.S.Store.held i.store) _ _ c.args.who (Fetch c.args.slot c.args.window) (Some BadSlot) c.self.invariant.0.accounts (empty_row i.ledger c.args.who c.args.slot c.args.window (ap (λ (x : State). held x.slots (place_of c.args.who c.args.slot)) (sym c.self.invariant.0.state) ∙ (rw (← c.self.view_is) at c.requires.empty))) (refl, refl) tt c.self.invariant.1,
       ordered_silent i.history c.note.new.history i.space (g.S.Store.seen i.store) c.args.who (Fetch c.args.slot c.args.window) (Some BadSlot) (g.S.Store.seen i.store).calls (rw (c.calls.ensures) at c.note.ensures)
-          (by_any (Fetch c.args.slot c.args.window) (Some BadSlot) (λ x. record { order = λ add. tt; add = λ add. refl; puts = λ puts calls. refl; unput = λ who calls w. w.0 })) c.self.invariant.2,
+          (by_any (Fetch c.args.slot c.args.window) (Some BadSlot) (λ x. record { order = λ add. tt; add = λ add. refl; puts = λ puts calls. refl; unput = λ who calls w. w.0; unpublished = refl })) c.self.invariant.2,
     )
 
 pub returns-clause-row : goal.returns-clause-row

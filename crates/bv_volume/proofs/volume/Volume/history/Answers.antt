@@ -8,3 +8,6 @@ returns-clause-counted g c = rw (← c.self.view_is) (g.met.S.Store.counted c.se
 
 pub returns-clause-puts : goal.returns-clause-puts
 returns-clause-puts g c = rw (← c.self.view_is) c.self.invariant.2.puts
+
+pub returns-clause-located : goal.returns-clause-located
+returns-clause-located g c = rw (← c.self.view_is) c.self.invariant.2.located

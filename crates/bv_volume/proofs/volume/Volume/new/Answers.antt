@@ -1,4 +1,4 @@
-use Rattle.std.proofs.Common.{rules, refl, arith}
+use Rattle.std.proofs.Common.{refl, arith}
 use Rattle.bv_volume.proofs.SessionCalls.{ordered_fresh}
 use Rattle.bv_volume.proofs.Freed.{spaced_fresh}
 use Rattle.bv_volume.proofs.Openings.{first, fresh_told}
@@ -19,5 +19,5 @@ invariant_of-result g c =
         safe = λ opened. fresh_told (g.S.Store.both c.args.store) s.told h c.args.first c.requires.fresh (c.requires.safe opened);
       }),
       rw (c.new-ledger.ensures) (spaced_fresh h _ _ _ _ c.setting.ensures refl refl c.requires.space),
-      ordered_fresh h c.args.space s c.requires.fresh c.requires.room,
+      ordered_fresh h c.args.space s c.requires.fresh c.geometry-counts.ensures.whole c.requires.located,
     )

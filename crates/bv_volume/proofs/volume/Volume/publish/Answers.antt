@@ -1,7 +1,5 @@
-use Rattle.std.proofs.Common.{true, refl, ◌≡◌, ◌≤◌, ◌<◌, ◌^◌, ◌⊎◌, ℕ, List, Option, Some, None, IfSome, [], refl, ap, sym, ◌∙◌, subst, arith, is_some}
+use Rattle.std.proofs.Common.{true, refl, ◌≡◌, ◌<◌, ◌^◌, ℕ, List, Option, Some, None, IfSome, [], refl, ap, sym, ◌∙◌, subst, arith, is_some}
 use Rattle.std.specs.Global.{Vec}
-use Rattle.spec_tree.specs.declared.Digest.{Digest}
-use Rattle.spec_tree.specs.declared.blob.Blob.{Blob}
 use Rattle.spec_core.specs.History.{last_state}
 use Rattle.spec_core.specs.State.{State, find}
 use Rattle.spec_core.specs.declared.setting.Setting.{Setting}
@@ -9,12 +7,11 @@ use Rattle.spec_core.specs.declared.act.Act.TheVariants.{Settle}
 use Rattle.spec_core.specs.declared.reply.Reply.TheVariants.{Published}
 use Rattle.bv_space.specs.Owned.{Owned}
 use Rattle.bv_ledger.specs.Answers.{device_reply}
-use Rattle.bv_ledger.specs.Entries.{prepared}
 use Rattle.bv_ledger.specs.Tables.{Tables}
 use Rattle.spec_core.specs.Log.{without}
-use Rattle.bv_store.specs.Stored.{Stored, Entry, Grows, SameData}
+use Rattle.bv_store.specs.Stored.{Stored, Grows, SameData}
 use Rattle.bv_volume.specs.Sessions.{Ordered}
-use Rattle.bv_volume.specs.Adding.{IsAdmitted, IsPut}
+use Rattle.bv_volume.specs.Adding.{IsAdmitted}
 use Rattle.bv_volume.specs.Events.{Does}
 use Rattle.bv_volume.specs.Kept.{Kept, seen_of}
 use Rattle.bv_volume.specs.Publishing.{Planned}
@@ -22,9 +19,10 @@ use Rattle.bv_volume.specs.Seen.{Seen}
 use Rattle.bv_volume.specs.Spaced.{Handed, Spaced}
 use Rattle.bv_volume.specs.declared.tokens.Admitted.{Admitted}
 use Rattle.bv_volume.specs.declared.volume.Volume.TheInside.{Inside}
-use Rattle.bv_volume.proofs.SessionCalls.{admitted_is, handed_adds, handed_claims, handed_nodes, ordered_ends, put_is}
+use Rattle.bv_volume.proofs.SessionCalls.{admitted_is, handed_adds, handed_claims, handed_nodes, ordered_ends, put_is, put_wrote}
 use Rattle.bv_volume.proofs.Freed.{are_taken, queue_lies, spaced_planned}
-use Rattle.bv_volume.proofs.Publishes.{can_write, entry, handed_spare, is_there, may, may_lie, planned, publish_call, publish_spaced, spaced_spare, taken_free}
+use Rattle.bv_volume.proofs.Publishes.{can_write, entry, handed_spare, is_there, may, may_lie, planned, publish_call, publish_placed, publish_spaced, spaced_spare, taken_free}
+use Rattle.bv_volume.proofs.Located.{located_publish}
 use Rattle.bv_volume.proofs.Silent.{CallDone}
 use Rattle.bv_volume.proofs.Ties.{kept_planned}
 use Rattle.bv_volume.proofs.volume.Volume.publish.Goals as goal
@@ -168,11 +166,18 @@ invariant_of-self-2 g c =
     let k = ready g i a c.self.invariant.0 (admitted_is i.history i.first i.ledger i.space s (g.S.Store.both i.store) c.args.who.session c.self.invariant.0 c.self.invariant.2 a (rw (← c.self.view_is) at c.requires.add)) (rw (← c.self.view_is) at c.requires.going) (rw (← c.self.view_is) at c.requires.number) in
     let p = plan_of g i a k z c.setting.result c.setting.ensures c.in-Ok.ensures.planned in
     let is = ap (λ (x : Stored). x.planned) p.is in
+    let H = g.S.Store.held i.store in
     let enters = rw is at e.ensures.enters in (
       (done g c).kept,
       spaced g c,
       ordered_ends i.history i.first i.ledger i.space s (g.S.Store.both i.store) c.args.who.session c.self.invariant.0 c.self.invariant.2 c.note.new.history f.new.space w c.args.who (Settle a.root) (device_reply Published e.result) w.calls (record { root = a.root; size = a.size; admitted = true; puts = a.put }) refl (rw (← c.self.view_is) at c.requires.add)
-          (rw (c.device_reply-reply.ensures, c.calls.ensures) at c.note.ensures) (enters.moves.geometry ∙ ap (λ (x : Stored). x.geometry) p.is) refl (λ w. w.0) refl
+          (rw (c.device_reply-reply.ensures, c.calls.ensures) at c.note.ensures) (enters.moves.geometry ∙ ap (λ (x : Stored). x.geometry) p.is) refl
+          (located_publish i.history.history s w c.args.who a.root w.calls e.result k.old.blocks.items i.ledger.queue (enters.moves.geometry ∙ ap (λ (x : Stored). x.geometry) p.is) (enters.moves.began ∙ ap (λ (x : Stored). x.began) p.is)
+          (subst (λ (x : Stored). Grows x.told w.told (λ d more. SameData x.geometry d more)) p.is e.ensures.same) c.self.invariant.2.puts (c.self.invariant.1.exactly k.going).sole
+          (publish_placed i.history i.first i.ledger i.ledger i.space i.space s z w B (g.S.Store.both c.prepare_entry.new.store) B H (g.S.Store.held c.prepare_entry.new.store) H c.args.who c.self.invariant.0 c.self.invariant.1 a k.old k.going k.number p c.in-Ok.ensures.both c.in-Ok.ensures.held e.result (rw is at e.ensures.placed))
+          (λ f failed. (e.ensures.kept f failed).0 ∙ ap (λ (x : Stored). x.placed) p.is)
+          (put_wrote i.history i.first i.ledger i.space s B c.args.who.session c.self.invariant.0 c.self.invariant.2 a (rw (← c.self.view_is) at c.requires.add) (rw (← c.self.view_is) at c.requires.put).all k.old.blocks k.old.has) c.self.invariant.2.located)
+          (λ w. w.0) refl
           (handed_adds c.prepare_entry.new.space f.new.space a.root _ e.result f.ensures.done f.ensures.kept ∙ ap (λ (x : Owned). without x.adds a.root) c.in-Ok.ensures.space)
           (handed_nodes c.prepare_entry.new.space f.new.space a.root _ e.result f.ensures.done f.ensures.kept ∙ ap (λ (x : Owned). without x.nodes a.root) c.in-Ok.ensures.space)
           (subst (λ (x : Stored). Grows x.told w.told (λ d more. SameData x.geometry d more)) p.is e.ensures.same),

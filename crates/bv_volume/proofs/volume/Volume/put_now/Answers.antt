@@ -1,4 +1,4 @@
-use Rattle.std.proofs.Common.{◌≢◌, ◌≡◌, ◌<◌, ◌≤◌, ◌+◌, ◌∷◌, [], true, IfSome, ℕ, List, length, get_or, Some, None, refl, ap, sym, ◌∙◌, subst, arith}
+use Rattle.std.proofs.Common.{◌≢◌, ◌≡◌, ◌<◌, ◌≤◌, ◌+◌, ◌∷◌, [], true, IfSome, ℕ, List, get_or, Some, None, refl, ap, sym, ◌∙◌, subst, arith}
 use Rattle.spec_tree.specs.Tree.{need_of}
 use Rattle.spec_core.specs.declared.act.Act.TheVariants.{Put}
 use Rattle.spec_core.specs.declared.reply.Reply.TheVariants.{Written}
@@ -90,7 +90,7 @@ invariant_of-self g c =
     let wrote = λ (none : e.result ≡ None). subst (λ (xs : List ℕ). Grows s.told w.told (λ d more. more ≡ device.Write (block_at s.geometry (get_or xs a.put 0)) c.args.block.now true ∷ [])) same (e.ensures.wrote none) in (
       (done g c).kept,
       spaced g c,
-      ordered_put i.history c.note.new.history i.first i.ledger i.space s w B (g.S.Store.held i.store) c.args.who a c.self.invariant.0 c.self.invariant.1 c.self.invariant.2 mine e.ensures.puts.moves.geometry next apart
+      ordered_put i.history c.note.new.history i.first i.ledger i.space s w B (g.S.Store.held i.store) c.args.who a c.self.invariant.0 c.self.invariant.1 c.self.invariant.2 mine e.ensures.puts.moves.geometry e.ensures.puts.moves.began e.ensures.placed next apart
           a.put w.calls e.result c.args.block.now (rw (c.device_reply-reply.ensures, c.calls.ensures) at c.note.ensures) wrote lies.1 (g.met.S.Store.counted e.new.store),
     )
 

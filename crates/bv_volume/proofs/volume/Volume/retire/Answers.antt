@@ -1,11 +1,8 @@
-use Rattle.std.proofs.Common.{true, ◌≡◌, ◌≤◌, ◌+◌, ℕ, Some, refl, ap, sym, ◌∙◌, subst, arith}
+use Rattle.std.proofs.Common.{true, ◌≡◌, ◌+◌, ℕ, Some, refl, ap, sym, ◌∙◌, arith}
 use Rattle.spec_tree.specs.Tree.{need_of}
-use Rattle.spec_core.specs.State.{find}
 use Rattle.spec_core.specs.declared.act.Act.TheVariants.{Retire}
 use Rattle.spec_core.specs.declared.reply.Reply.TheVariants.{Retired}
-use Rattle.bv_claims.proofs.Counts.{times-append}
-use Rattle.bv_claims.specs.Blocks.{times}
-use Rattle.bv_volume.specs.Adding.{IsBegun, IsAdmitted}
+use Rattle.bv_volume.specs.Adding.{IsAdmitted}
 use Rattle.bv_volume.specs.Kept.{seen_of}
 use Rattle.bv_volume.specs.Spaced.{Spaced}
 use Rattle.bv_volume.proofs.SessionCalls.{admitted_is, ordered_ended}
@@ -63,7 +60,7 @@ invariant_of-self g c =
     let s = g.S.Store.seen i.store in (
       (done g c).kept,
       spaced g c,
-      ordered_ended i.history i.first i.ledger i.space s (g.S.Store.both i.store) c.args.who.session c.self.invariant.0 c.self.invariant.2 c.note.new.history c.retire.new.self c.args.who (Retire c.args.add.root) (Retired) s.calls (record { root = c.args.add.root; size = c.args.add.size; admitted = true; puts = c.args.add.put }) refl (rw (← c.self.view_is) at c.requires) (rw (c.calls.ensures) at c.note.ensures) refl (λ w. w.0) refl c.retire.ensures.adds c.retire.ensures.nodes,
+      ordered_ended i.history i.first i.ledger i.space s (g.S.Store.both i.store) c.args.who.session c.self.invariant.0 c.self.invariant.2 c.note.new.history c.retire.new.self c.args.who (Retire c.args.add.root) (Retired) s.calls (record { root = c.args.add.root; size = c.args.add.size; admitted = true; puts = c.args.add.put }) refl (rw (← c.self.view_is) at c.requires) (rw (c.calls.ensures) at c.note.ensures) refl (λ w. w.0) refl refl c.retire.ensures.adds c.retire.ensures.nodes,
     )
 
 pub returns-clause-row : goal.returns-clause-row

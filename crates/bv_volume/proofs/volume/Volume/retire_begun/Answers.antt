@@ -1,16 +1,15 @@
 use Rattle.spec_session.specs.Own.{new_add}
-use Rattle.std.proofs.Common.{◌≡◌, ◌≤◌, ◌+◌, ℕ, Some, refl, ap, sym, ◌∙◌, subst, arith}
+use Rattle.std.proofs.Common.{◌≡◌, ◌+◌, ℕ, Some, refl, ap, sym, ◌∙◌, arith}
 use Rattle.spec_tree.specs.Tree.{need_of}
-use Rattle.spec_core.specs.State.{find}
 use Rattle.spec_core.specs.declared.act.Act.TheVariants.{Retire}
 use Rattle.spec_core.specs.declared.reply.Reply.TheVariants.{Retired}
 use Rattle.bv_claims.proofs.Counts.{times-append}
 use Rattle.bv_claims.specs.Blocks.{times}
-use Rattle.bv_volume.specs.Adding.{IsBegun, IsAdmitted}
+use Rattle.bv_volume.specs.Adding.{IsBegun}
 use Rattle.bv_volume.specs.Kept.{seen_of}
 use Rattle.bv_volume.specs.Spaced.{Spaced}
 use Rattle.bv_volume.proofs.SessionCalls.{begun_is, ordered_ended}
-use Rattle.bv_volume.proofs.Adds.{Ends, add_is_part, adds_are_sole, adds_less, end_room, length_less, same_version, spaced_ends, tabled_add}
+use Rattle.bv_volume.proofs.Adds.{Ends, adds_are_sole, adds_less, end_room, length_less, same_version, spaced_ends, tabled_add}
 use Rattle.bv_volume.proofs.Silent.{CallDone, quiet_call}
 use Rattle.bv_volume.proofs.Still.{still}
 use Rattle.bv_volume.proofs.volume.Volume.retire_begun.Goals as goal
@@ -63,7 +62,7 @@ invariant_of-self g c =
     let s = g.S.Store.seen i.store in (
       (done g c).kept,
       spaced g c,
-      ordered_ended i.history i.first i.ledger i.space s (g.S.Store.both i.store) c.args.who.session c.self.invariant.0 c.self.invariant.2 c.note.new.history c.give_back.new.self c.args.who (Retire c.args.begun.root) (Retired) s.calls (new_add c.args.begun.root c.args.begun.size) refl (rw (← c.self.view_is) at c.requires.begun) (rw (c.calls.ensures) at c.note.ensures) refl (λ w. w.0) refl c.give_back.ensures.adds c.give_back.ensures.nodes,
+      ordered_ended i.history i.first i.ledger i.space s (g.S.Store.both i.store) c.args.who.session c.self.invariant.0 c.self.invariant.2 c.note.new.history c.give_back.new.self c.args.who (Retire c.args.begun.root) (Retired) s.calls (new_add c.args.begun.root c.args.begun.size) refl (rw (← c.self.view_is) at c.requires.begun) (rw (c.calls.ensures) at c.note.ensures) refl (λ w. w.0) refl refl c.give_back.ensures.adds c.give_back.ensures.nodes,
     )
 
 pub returns-clause-row : goal.returns-clause-row

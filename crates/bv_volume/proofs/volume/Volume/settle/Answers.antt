@@ -1,16 +1,14 @@
-use Rattle.std.proofs.Common.{true, ◌≡◌, ◌≤◌, ◌+◌, ℕ, Some, refl, ap, sym, ◌∙◌, subst, arith, Option, is_some}
+use Rattle.std.proofs.Common.{true, ◌≡◌, ◌+◌, ℕ, Some, refl, ap, sym, ◌∙◌, Option, is_some}
 use Rattle.spec_tree.specs.Tree.{need_of}
-use Rattle.spec_core.specs.State.{find}
 use Rattle.spec_core.specs.declared.act.Act.TheVariants.{Settle}
 use Rattle.bv_ledger.specs.Answers.{refusal_reply}
-use Rattle.bv_claims.proofs.Counts.{times-append}
-use Rattle.bv_claims.specs.Blocks.{times}
-use Rattle.bv_volume.specs.Adding.{IsBegun, IsAdmitted}
+use Rattle.bv_volume.specs.Adding.{IsAdmitted}
 use Rattle.bv_volume.specs.Kept.{seen_of}
 use Rattle.bv_volume.specs.Spaced.{Spaced}
 use Rattle.bv_volume.proofs.SessionCalls.{admitted_is, ordered_ended}
 use Rattle.bv_volume.proofs.Adds.{Ends, add_is_part, adds_are_sole, settle_less, end_room, same_version, spaced_ends, tabled_add}
 use Rattle.bv_volume.proofs.Quiet.{silent_quiet}
+use Rattle.bv_volume.proofs.Located.{refusal_unpublished}
 use Rattle.bv_volume.proofs.Silent.{CallDone, quiet_call, refusal_silent}
 use Rattle.bv_volume.proofs.Still.{still}
 use Rattle.bv_volume.proofs.volume.Volume.settle.Goals as goal
@@ -58,7 +56,7 @@ invariant_of-self g c =
     let s = g.S.Store.seen i.store in (
       (done g c).kept,
       spaced g c,
-      ordered_ended i.history i.first i.ledger i.space s (g.S.Store.both i.store) c.args.who.session c.self.invariant.0 c.self.invariant.2 c.note.new.history c.retire.new.self c.args.who (Settle c.args.add.root) (refusal_reply c.in-Some.refusal) s.calls (record { root = c.args.add.root; size = c.args.add.size; admitted = true; puts = c.args.add.put }) refl (rw (← c.self.view_is) at c.requires.add) (rw (c.refusal_reply-reply.ensures, c.calls.ensures) at c.note.ensures) refl (λ w. w.0) refl c.retire.ensures.adds c.retire.ensures.nodes,
+      ordered_ended i.history i.first i.ledger i.space s (g.S.Store.both i.store) c.args.who.session c.self.invariant.0 c.self.invariant.2 c.note.new.history c.retire.new.self c.args.who (Settle c.args.add.root) (refusal_reply c.in-Some.refusal) s.calls (record { root = c.args.add.root; size = c.args.add.size; admitted = true; puts = c.args.add.put }) refl (rw (← c.self.view_is) at c.requires.add) (rw (c.refusal_reply-reply.ensures, c.calls.ensures) at c.note.ensures) refl (λ w. w.0) (refusal_unpublished c.args.add.root c.in-Some.refusal) refl c.retire.ensures.adds c.retire.ensures.nodes,
     )
 
 pub returns-in-Some-clause-row : goal.returns-in-Some-clause-row

@@ -1,4 +1,4 @@
-use Rattle.std.proofs.Common.{◌≡◌, [], ap, sym, ◌∙◌, arith}
+use Rattle.std.proofs.Common.{◌≡◌, [], ap, sym, ◌∙◌}
 use Rattle.spec_core.specs.State.{State}
 use Rattle.bv_volume.proofs.Unmounts.{unmount_settles, unmount_shows}
 use Rattle.bv_volume.proofs.volume.Volume.unmount.Goals as goal
