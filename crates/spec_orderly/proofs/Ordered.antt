@@ -32,11 +32,11 @@ use Rattle.spec_session.specs.Conform.{events_of}
 use Rattle.spec_session.specs.Own.{OwnAdd, add_after, add_from, add_of, admitted_add, new_add, put_add, with_add}
 use Rattle.spec_orderly.specs.Orderly.{AreInOrder, HasRoot, IsInOrder}
 
-abbrev Adds : Type 0
+abbrev pub Adds : Type 0
 Adds = List (Digest × ℕ)
 
 -- what each session has under way
-abbrev Own : Type 0
+abbrev pub Own : Type 0
 Own = ℕ → Option OwnAdd
 
 -- each is under way in the core, and no two have one root
@@ -45,7 +45,7 @@ pub record Agrees (own : Own) (adds : Adds) : Type 0 where
   pub apart : (s t : ℕ) (a b : OwnAdd) → ¬ (s ≡ t) → own s ≡ Some a → own t ≡ Some b → ¬ (a.root ≡ b.root)
 
 -- one session's add is another one now
-abbrev with_own : Own → ℕ → Option OwnAdd → Own
+abbrev pub with_own : Own → ℕ → Option OwnAdd → Own
 with_own own s add t = if s == t then add else own t
 
 -- the add is as it was, but for how far it is
@@ -136,7 +136,7 @@ alike_put : (o : Option OwnAdd) → IsAlike o (with_add put_add o)
 alike_put None b is = absurd (cc)
 alike_put (Some a) b is = let e : put_add a ≡ b = cc in (a, refl, ap (λ (x : OwnAdd). x.root) e, ap (λ (x : OwnAdd). x.size) e)
 
-granted : (o : Option ℕ) (a b c d : Bool) (h need room : ℕ) → Chosen (unless_stopped o (cond a (Only Exists) (cond b (Only (Leaving h)) (cond c (Only InFlight) (cond d (Only (NoSpace need room)) (Only Granted)))))) Granted → c ≡ false
+pub granted : (o : Option ℕ) (a b c d : Bool) (h need room : ℕ) → Chosen (unless_stopped o (cond a (Only Exists) (cond b (Only (Leaving h)) (cond c (Only InFlight) (cond d (Only (NoSpace need room)) (Only Granted)))))) Granted → c ≡ false
 granted (Some f) a b c d h need room k = cc
 granted None true b c d h need room k = cc
 granted None false true c d h need room k = cc
@@ -144,7 +144,7 @@ granted None false false true d h need room k = cc
 granted None false false false true h need room k = cc
 granted None false false false false h need room k = refl
 
-none_of : (o : Option ℕ) → is_some o ≡ false → o ≡ None
+pub none_of : (o : Option ℕ) → is_some o ≡ false → o ≡ None
 none_of None e = refl
 none_of (Some n) e = absurd (cc)
 
@@ -173,12 +173,12 @@ pub opened_adds : (s : State) (p : Place) (r : Digest) (reply : Reply) → (open
 opened_adds s p r (Opened n) = refl
 opened_adds s p r _ = refl
 
-sync_adds : (s : State) (reply : Reply) → (sync_done s reply).adds ≡ s.adds
+pub sync_adds : (s : State) (reply : Reply) → (sync_done s reply).adds ≡ s.adds
 sync_adds s Synced = refl
 sync_adds s (DeviceFault f) = refl
 sync_adds s _ = refl
 
-unmount_adds : (s : State) (reply : Reply) → (unmount_done (slots_emptied s) reply).adds ≡ s.adds
+pub unmount_adds : (s : State) (reply : Reply) → (unmount_done (slots_emptied s) reply).adds ≡ s.adds
 unmount_adds s Unmounted = refl
 unmount_adds s (DeviceFault f) = refl
 unmount_adds s _ = refl
@@ -230,14 +230,14 @@ module _ (g : Setting) (st : State) (who : Who) (own : Own) (k : Agrees own st.a
 -- ---- events one after another
 
 -- what sessions have under way after these events
-abbrev owns : List CoreEvent → Own
+abbrev pub owns : List CoreEvent → Own
 owns before t = add_of (events_of t before)
 
 add_from-append : (add : Option OwnAdd) (es fs : List CoreEvent) → add_from add (es ++ fs) ≡ add_from (add_from add es) fs
 add_from-append add [] fs = refl
 add_from-append add (e ∷ es) fs = add_from-append (add_after add e.act e.reply) es fs
 
-owns_more : (before : List CoreEvent) (e : CoreEvent) (t : ℕ) → owns (before ++ e ∷ []) t ≡ with_own (owns before) e.who.session (add_after (owns before e.who.session) e.act e.reply) t
+pub owns_more : (before : List CoreEvent) (e : CoreEvent) (t : ℕ) → owns (before ++ e ∷ []) t ≡ with_own (owns before) e.who.session (add_after (owns before e.who.session) e.act e.reply) t
 owns_more before e t = ap add_of (filter-append (λ (x : CoreEvent). x.who.session == t) before (e ∷ [])) ∙ by_test (e.who.session == t) refl where
   by_test : (b : Bool) → (e.who.session == t) ≡ b → add_of (events_of t before ++ cond b (e ∷ []) []) ≡ (if b then add_after (owns before e.who.session) e.act e.reply else owns before t)
   by_test true same =

@@ -1,5 +1,6 @@
 //! Laws of the definitions: what each function here ensures holds of all values.
 
+ghost use Rattle.spec_orderly.specs.Left.{NoAddIsLeft};
 ghost use Rattle.spec_orderly.specs.Named.{ConformingTellRoots};
 ghost use Rattle.spec_orderly.specs.Orderly.{AddsAreApart, OwnAddsAreUnderWay};
 ghost use Rattle.spec_orderly.specs.Slots.{OwnSlotsAreHeld, SlotsHoldTheirOwn};
@@ -27,4 +28,9 @@ pub fn slots_hold_what_their_sessions_opened()
 /// Before an unmount, a root that a slot holds by its session's own events is held there in the core.
 pub fn own_slots_are_held()
     ensures { OwnSlotsAreHeld }
+{}
+
+/// Where each session's lines ended, no add is under way.
+pub fn no_add_is_left()
+    ensures { NoAddIsLeft }
 {}
