@@ -3,7 +3,7 @@ use Rattle.std.proofs.Common.{◌≡◌, ◌≤◌, ℕ, ◌+◌, ◌-◌, ◌++
 use Rattle.spec_disk.specs.Images.{IsSettled}
 use Rattle.spec_tree.specs.declared.Digest.{Digest}
 use Rattle.spec_core.specs.Choice.{is_empty}
-use Rattle.spec_core.specs.History.{last_state}
+use Rattle.spec_core.specs.History.{Legal, last_state}
 use Rattle.spec_core.specs.Log.{purges}
 use Rattle.spec_core.specs.State.{State}
 use Rattle.spec_core.specs.declared.act.Act.TheVariants.{Unmount}
@@ -52,7 +52,7 @@ unmounts_refused stopped old new Both New queue refusal.NumberEnd a = a
 
 -- the volume that would show the event
 abbrev pub Shows : Seen → Noted → Stored → Who → Option Reply → Type 0
-Shows old n s who reply = (v : Seen) × (v.history ≡ n.history) × (v.store ≡ record s { planned = None }) × Does old v who Unmount reply × IsSafe v
+Shows old n s who reply = (v : Seen) × (v.history ≡ n.history) × (v.store ≡ record s { planned = None }) × Does old v who Unmount reply × Legal v.history v.next × IsSafe v
 
 module _ (n : Noted) (next : ℕ) (t new : Tables) (o : Owned) (s s' : Stored) (Both New : Map → Map → Type 0) (who : Who) (kept : Kept n next t s Both) (room : 1 ≤ n.spare - length t.adds)
     (counted : IfSome s'.told (λ d. length d.trace ≡ s'.calls)) (holds : (a b : Map) → New a b → IfSome s'.told (λ d. Leaves d.base d.trace (HoldsEither a b))) where
@@ -63,13 +63,13 @@ module _ (n : Noted) (next : ℕ) (t new : Tables) (o : Owned) (s s' : Stored) (
       let d = unmount_call n next t new o o refl s s' Both New who kept e.going counted holds (omega (arith, room)) failed n' is does
       (subst (λ (q : List Digest). Lasts s s' Both New (λ m. purges m q ++ []) failed) queue e.lasts)
       (subst (λ (q : List Digest). failed ≡ None → s'.number ≡ cond (is_empty q) s.number (s.number + 1)) queue e.number) in
-      (seen_of n' next new o s', refl, refl, d.does, d.safe)
+      (seen_of n' next new o s', refl, refl, d.does, d.kept.legal, d.safe)
 
   unasked : (q : Reply) (n' : Noted) → n' ≡ with_noted n (event_of who Unmount q s'.calls) → L.Does t new who Unmount (Some q) → IsSilent (Some q) → AsksNothing s s' Both New → Shows (seen_of n next t o s) n' s' who (Some q)
   unasked q n' is does silent a =
       let after = kept_planned n next t s s' Both New a.planned a.is a.both kept in
       let d = quiet_call n n' next t new o o s' New who Unmount (Some q) refl is after does silent (has_room n next t new s Both who Unmount (Some q) kept does (λ x. refl) room) counted in
-      (seen_of n' next new o s', refl, refl, subst (λ (v : Seen). Does v (seen_of n' next new o s') who Unmount (Some q)) (ap (λ (x : Stored). seen_of n next t o x) a.is) d.does, d.safe)
+      (seen_of n' next new o s', refl, refl, subst (λ (v : Seen). Does v (seen_of n' next new o s') who Unmount (Some q)) (ap (λ (x : Stored). seen_of n next t o x) a.is) d.does, d.kept.legal, d.safe)
 
   pub unmount_shows : (res : Result (Unit {0}) UnmountFault) (n' : Noted) → n' ≡ noted n who Unmount (unmount_reply res) s'.calls → IfSome (unmount_reply res) (λ q. L.Does t new who Unmount (Some q)) → Unmounts t.stopped s s' Both New (t.queue ++ t.leaving) res → Shows (seen_of n next t o s) n' s' who (unmount_reply res)
   unmount_shows (Ok v) n' is does u = asked None n' is does u
@@ -77,7 +77,7 @@ module _ (n : Noted) (next : ℕ) (t new : Tables) (o : Owned) (s s' : Stored) (
   unmount_shows (Err (unmount.Stopped f)) n' is does u = unasked _ n' is does (refl, refl) u
   unmount_shows (Err unmount.NumberEnd) n' is does u = unasked _ n' is does (refl, refl) u
   unmount_shows (Err unmount.NoMemory) n' is does u =
-      (seen_of n next t o s, ap (λ (x : Noted). x.history) (sym is), ap (λ (x : Stored). record x { planned = None }) (sym u.is), refl, safe_of n next t o s Both kept)
+      (seen_of n next t o s, ap (λ (x : Noted). x.history) (sym is), ap (λ (x : Stored). record x { planned = None }) (sym u.is), refl, kept.legal, safe_of n next t o s Both kept)
 
   pub unmount_settles : (res : Result (Unit {0}) UnmountFault) → Unmounts t.stopped s s' Both New (t.queue ++ t.leaving) res → OnOk res (IfSome s'.told (λ d. IsSettled d.trace))
   unmount_settles (Ok v) u = u.settled refl

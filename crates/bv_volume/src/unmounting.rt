@@ -2,7 +2,7 @@
 
 ghost use Rattle.std.specs.Prelude.{◌≡◌, ◌≤◌, ◌<◌, ◌^◌, ◌+◌, ℕ, [], IfSome, OnOk, None, Some, Contains};
 ghost use Rattle.spec_disk.specs.Images.{IsSettled};
-ghost use Rattle.spec_core.specs.History.{last_state};
+ghost use Rattle.spec_core.specs.History.{Legal, last_state};
 ghost use Rattle.bv_ledger.specs.Entries.{let_go_of_all};
 ghost use Rattle.bv_ledger.specs.Tables as L;
 ghost use Rattle.bv_ledger.specs.Tables.{Tables};
@@ -133,14 +133,15 @@ fn end_mount<S: Store>(
 impl<'t, S: Store> Volume<'t, S> {
     /// Closes every slot, purges all that was unlinked, makes the map last and empties the journal;
     /// then gives out the history and what kept the blobs. The event and what the device was asked are
-    /// those that a volume with this history and store would show. After `NoMemory` the device is as
-    /// it was.
+    /// those that a volume with this history and store would show, and the history is legal. After
+    /// `NoMemory` the device is as it was.
     pub fn unmount(self, alloc: Global, who: Who) -> (History, S, Result<(), UnmountFault>)
         requires spare { 1 ≤ self.spare }
         requires none { (last_state self.history self.next).adds ≡ [] }
         ensures row { (v : Seen) × (v.history ≡ result.0.history)
             × (v.store ≡ record (S.seen result.1) { planned = None })
-            × Does self.entry v who Act.Unmount (reply_of result.2) × IsSafe v }
+            × Does self.entry v who Act.Unmount (reply_of result.2) × Legal v.history v.next
+            × IsSafe v }
         ensures settled { OnOk result.2 (IfSome (S.seen result.1).told (λ d. IsSettled d.trace)) }
     {
         let Volume {
