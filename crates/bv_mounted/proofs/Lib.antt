@@ -9,3 +9,5 @@ pub mod LiesLemmas
 pub mod MountLemmas
 pub mod OpenLemmas
 pub mod CallerLemmas
+pub mod ImageLemmas
+pub mod OpensLemmas

@@ -1,2 +1,3 @@
 -- What mounting a volume does.
 pub mod Mounts
+pub mod Opens

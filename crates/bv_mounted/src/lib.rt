@@ -8,5 +8,8 @@ mod opening;
 mod taken;
 mod taking;
 
-pub use laws::a_kept_volume_keeps_the_theorem_of_stops;
+pub use laws::{
+    a_kept_volume_keeps_the_theorem_of_stops, a_mounted_history_opens_with_its_image,
+    a_mounted_volume_survives_from_its_image,
+};
 pub use mounting::mount;
