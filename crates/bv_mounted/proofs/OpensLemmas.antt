@@ -1,8 +1,13 @@
 -- What the history of a mounted volume opens with.
-use Rattle.std.proofs.Common.{◌≡◌, ℕ, List, map, Option, Some, None, ap, sym, ◌∙◌, subst}
+use Rattle.std.proofs.Common.{◌≡◌, ◌⊎◌, inl, inr, ℕ, List, map, Option, Some, None, refl, ap, sym, ◌∙◌, subst}
 use Rattle.std.specs.Prelude.{IfSome, IsSomeAnd}
 use Rattle.spec_disk.specs.Disk.{Blocks}
 use Rattle.spec_disk.specs.Images.{IsSettled}
+use Rattle.spec_disk.specs.declared.event.Event.{Event}
+use Rattle.spec_image.specs.Blobs.{blob_map}
+use Rattle.spec_rest.specs.Rest.{Map}
+use Rattle.spec_inspect.specs.declared.mount_fault.MountFault.TheVariants as mount
+use Rattle.bv_mount.specs.Recovers.{KeepsVolume}
 use Rattle.spec_record.specs.declared.geometry.Geometry.{Geometry}
 use Rattle.spec_record.specs.declared.superblock.Super.{Super}
 use Rattle.spec_record.specs.declared.info.Info.{Info}
@@ -17,12 +22,13 @@ use Rattle.spec_headline.specs.Headline.{Survives}
 use Rattle.spec_headline.specs.Run.{HasWholeBlobs, OpensWith}
 use Rattle.bv_claims.specs.declared.claims.Claims.{Claims}
 use Rattle.bv_device.specs.Seen.{Seen}
-use Rattle.bv_device.specs.Told.{Disk, now_of}
+use Rattle.bv_device.specs.Told.{Disk, disk_with, now_of}
 use Rattle.bv_mount.specs.declared.inspected.Inspected.{Inspected}
 use Rattle.bv_mount.specs.Inspects.{IsInspected, inspection}
 use Rattle.bv_volume.specs.Seen.{IsSafe, Seen as Volume}
-use Rattle.bv_mounted.specs.Mounts.{Mounts}
-use Rattle.bv_mounted.specs.Opens.{GoesOn, OpensWithItsImage, SurvivesFromItsImage}
+use Rattle.bv_mounted.specs.Mounts.{Mounts, history_of, records_in}
+use Rattle.bv_mounted.specs.Opens.{GoesOn, OpensWithItsImage, RefusedMountsSurvive, SurvivesFromItsImage}
+use Rattle.bv_mounted.proofs.SafeLemmas.{image_blobs, kept_theorem, opening_is}
 use Rattle.bv_mounted.proofs.ImageLemmas.{HasHead, found_head, holds_whole}
 
 -- counts and next number of a history
@@ -90,3 +96,30 @@ opens_with_its_image old i claims v w m gives goes = told_opens old i claims v w
 pub survives_from_its_image : SurvivesFromItsImage
 survives_from_its_image old i claims v w m gives goes safe =
     told_survives old i claims v w m goes old.told (goes.began ∙ m.began) (told_opens old i claims v w m goes old.told m.blobs_are gives) safe
+
+-- ---- a mount that was refused
+
+module _ (i : Inspected) (d : Disk) (is : IsInspected (now_of d) i) (whole : HasWholeBlobs (now_of d)) where
+  refused_map : blobs (now_of d) ≡ Some (opening_map (history_of i))
+  refused_map = image_blobs i (now_of d) is ∙ ap (λ (m : Map). Some m) (sym (opening_is (blob_map (records_in i))))
+
+  kept_survives : (told : Option Disk) (k : KeepsVolume d told) → Survives (now_of d) k.events (history_of i) i.replay.next_number
+  kept_survives told k = record {
+    opens = record { map = refused_map; geometry = head_counts (now_of d) i (found_head (now_of d) (inspection i) is.is) };
+    stops = kept_theorem d told (history_of i) k refl (record { is = refused_map; whole = holds_whole (now_of d) (opening_map (history_of i)) refused_map whole });
+  }
+
+told_refused : (i : Inspected) (o told : Option Disk) → IfSome o (λ d. IsSettled d.trace → IsInspected (now_of d) i) → IfSome o (λ d. IsSettled d.trace → KeepsVolume d told) → (P : Type 0)
+    → IfSome o (λ d. IsSettled d.trace → HasWholeBlobs (now_of d) → P ⊎ ((events : List Event) × (told ≡ Some (disk_with d events)) × Survives (now_of d) events (history_of i) i.replay.next_number))
+told_refused i None told gives keeps P = tt
+told_refused i (Some d) told gives keeps P = λ settled whole. let k = keeps settled in inr (k.events, k.is, kept_survives i d (gives settled) whole told k)
+
+told_same : (i : Inspected) (o told : Option Disk) (P : Type 0) → P
+    → IfSome o (λ d. IsSettled d.trace → HasWholeBlobs (now_of d) → P ⊎ ((events : List Event) × (told ≡ Some (disk_with d events)) × Survives (now_of d) events (history_of i) i.replay.next_number))
+told_same i None told P same = tt
+told_same i (Some d) told P same = λ settled whole. inl same
+
+pub refused_mounts_survive : RefusedMountsSurvive
+refused_mounts_survive old i new mount.NoMemory gives r = told_same i old.told new.told (new ≡ old) r
+refused_mounts_survive old i new (mount.DeviceFault count) gives r = told_refused i old.told new.told gives r.2 (new ≡ old)
+refused_mounts_survive old i new f gives r = absurd r

@@ -1,14 +1,16 @@
 -- What a mounted volume's history opens with, and what a stop of the machine leaves as it goes on.
-use Rattle.std.specs.Prelude.{◌≡◌, IfSome, IsSomeAnd}
+use Rattle.std.specs.Prelude.{◌≡◌, ◌⊎◌, List, Some, IfSome, IsSomeAnd}
+use Rattle.spec_disk.specs.declared.event.Event.{Event}
 use Rattle.spec_disk.specs.Images.{IsSettled}
+use Rattle.spec_inspect.specs.declared.mount_fault.MountFault.{MountFault}
 use Rattle.spec_headline.specs.Headline.{Survives}
 use Rattle.spec_headline.specs.Run.{HasWholeBlobs, OpensWith}
 use Rattle.bv_claims.specs.declared.claims.Claims.{Claims}
 use Rattle.bv_device.specs.Seen.{Seen}
-use Rattle.bv_device.specs.Told.{now_of}
+use Rattle.bv_device.specs.Told.{disk_with, now_of}
 use Rattle.bv_mount.specs.declared.inspected.Inspected.{Inspected}
 use Rattle.bv_volume.specs.Seen.{Seen as Volume, IsSafe}
-use Rattle.bv_mounted.specs.Mounts.{Gives, Mounts}
+use Rattle.bv_mounted.specs.Mounts.{Gives, Mounts, Refused, history_of}
 
 -- a volume later in a mount: the mount began with the same, and the device tells of the disk that it
 -- told of then
@@ -39,3 +41,14 @@ SurvivesFromItsImage =
     → IfSome old.told (λ d. IsSettled d.trace → HasWholeBlobs (now_of d)
     → IsSomeAnd w.store.told (λ e.
     (e.base ≡ now_of d) × Survives (now_of d) e.trace w.history w.next))
+
+-- A mount that was refused left the device as it was; or some writes and syncs of the recovery came,
+-- and whatever a stop leaves of them has the blobs of the image, as with a history without an event.
+abbrev pub RefusedMountsSurvive : Type 0
+RefusedMountsSurvive =
+    (old : Seen) (i : Inspected) (new : Seen) (f : MountFault)
+    → Gives old i → Refused old i new f
+    → IfSome old.told (λ d. IsSettled d.trace → HasWholeBlobs (now_of d)
+    → (new ≡ old)
+    ⊎ ((events : List Event) × (new.told ≡ Some (disk_with d events))
+    × Survives (now_of d) events (history_of i) i.replay.next_number))

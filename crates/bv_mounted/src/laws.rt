@@ -4,7 +4,7 @@ ghost use Rattle.spec_core.specs.History.{History, opening_map};
 ghost use Rattle.spec_crash.specs.Crash.{HoldsWhole, CrashPrefix};
 ghost use Rattle.bv_device.specs.Told.{Disk, now_of};
 ghost use Rattle.bv_mount.specs.Recovers.{KeepsVolume};
-ghost use Rattle.bv_mounted.specs.Opens.{OpensWithItsImage, SurvivesFromItsImage};
+ghost use Rattle.bv_mounted.specs.Opens.{OpensWithItsImage, RefusedMountsSurvive, SurvivesFromItsImage};
 
 /// A run that keeps the volume of a disk, such as a recovery that failed, keeps the theorem of stops
 /// of a mount without an event, where the disk held the opening's blobs whole.
@@ -23,4 +23,9 @@ pub fn a_mounted_history_opens_with_its_image()
 /// Where each blob of that image was whole, the mounted volume survives each stop of the machine.
 pub fn a_mounted_volume_survives_from_its_image()
     ensures { SurvivesFromItsImage }
+{}
+
+/// A refused mount left the device as it was, or each stop since leaves the blobs of the image.
+pub fn a_refused_mount_survives()
+    ensures { RefusedMountsSurvive }
 {}
