@@ -333,6 +333,11 @@ join_by : (cur xs ys : List CoreEvent) → AreByLine cur xs → AreByLine (cur +
 join_by cur [] ys first rest = subst (λ (l : List CoreEvent). AreByLine l ys) (append-nil cur) rest
 join_by cur (e ∷ xs) ys first rest = (first.0, join_by (cur ++ e ∷ []) xs ys first.1 (subst (λ (l : List CoreEvent). AreByLine l ys) (sym (append_assoc cur (e ∷ []) xs)) rest))
 
+-- the same of the first of these events
+pub front_by : (cur xs ys : List CoreEvent) → AreByLine cur (xs ++ ys) → AreByLine cur xs
+front_by cur [] ys by = tt
+front_by cur (x ∷ xs) ys by = (by.0, front_by (cur ++ x ∷ []) xs ys by.1)
+
 -- lines that were done, before these others
 done_by : (version : ℕ) (own : List CoreEvent) (ts rest : List Request) (es : List CoreEvent) → AreApart (ts ++ rest) → AreDue (ts ++ rest) own → DoLines version own ts es → AreByLine own es × AreDue rest (own ++ es)
 done_by version own [] rest es apart due d =

@@ -2,3 +2,4 @@ pub mod ByLineLemmas
 pub mod CutLemmas
 pub mod HeldLemmas
 pub mod PageLemmas
+pub mod WhereLemmas

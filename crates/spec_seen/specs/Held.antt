@@ -1,12 +1,15 @@
--- Who published a blob that a slot holds (this project's profile).
-use Rattle.std.specs.Prelude.{◌≡◌, ℕ, List, ◌++◌, None, Some, All}
+-- Who published a blob that a slot holds, and where it lies (this project's profile).
+use Rattle.std.specs.Prelude.{◌≡◌, ℕ, List, [], ◌++◌, None, Some, All}
 use Rattle.spec_tree.specs.declared.Digest.{Digest}
 use Rattle.spec_core.specs.History.{History, Legal, last_state}
 use Rattle.spec_core.specs.Laws.{Empties}
 use Rattle.spec_core.specs.State.{held}
 use Rattle.spec_core.specs.declared.event.CoreEvent.{CoreEvent}
 use Rattle.spec_core.specs.declared.place.Place.{Place}
-use Rattle.spec_served.specs.Places.{publisher}
+use Rattle.spec_disk.specs.declared.event.Event.{Event}
+use Rattle.spec_disk.specs.Disk.{Blocks}
+use Rattle.spec_served.specs.Adds.{AreByLine}
+use Rattle.spec_served.specs.Places.{publisher, blocks_by}
 
 -- a history up to some moment
 abbrev pub up_to : History → List CoreEvent → History
@@ -21,3 +24,15 @@ HeldBlobsStayPublished =
     → held (last_state (up_to h before) next).slots p ≡ Some r
     → All (λ e. ¬ Empties p e.who e.act) more
     → publisher r None (before ++ more) ≡ publisher r None before
+
+-- Where lines made the history besides, its blocks stay the same too: what the device tells of a blob
+-- at a fetch is of the blocks that were the blob's when the line began.
+abbrev pub HeldBlobsStayWhere : Type 0
+HeldBlobsStayWhere =
+    (base : Blocks) (told : List Event) (h : History) (next : ℕ) (before more : List CoreEvent)
+    (p : Place) (r : Digest)
+    → Legal (up_to h (before ++ more)) next → AreByLine [] (before ++ more)
+    → held (last_state (up_to h before) next).slots p ≡ Some r
+    → All (λ e. ¬ Empties p e.who e.act) more
+    → blocks_by base told (before ++ more) r (publisher r None (before ++ more))
+    ≡ blocks_by base told before r (publisher r None before)

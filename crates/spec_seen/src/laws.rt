@@ -1,7 +1,7 @@
 //! Laws of the definitions: what each function here ensures holds of all values.
 
 ghost use Rattle.spec_seen.specs.ByLine.{LinesAddOnce};
-ghost use Rattle.spec_seen.specs.Held.{HeldBlobsStayPublished};
+ghost use Rattle.spec_seen.specs.Held.{HeldBlobsStayPublished, HeldBlobsStayWhere};
 ghost use Rattle.spec_seen.specs.Pages.{PagesShow};
 
 /// A line whose result came of pages as the device has them says of the device what it should.
@@ -18,4 +18,9 @@ pub fn a_held_blob_stays_published()
 /// what it has put.
 pub fn lines_add_one_blob_at_most()
     ensures { LinesAddOnce }
+{}
+
+/// While a slot holds a root, its blob's blocks stay the same, where lines made the history.
+pub fn a_held_blob_stays_where_it_is()
+    ensures { HeldBlobsStayWhere }
 {}
