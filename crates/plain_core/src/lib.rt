@@ -1,6 +1,7 @@
 //! The core of a volume as a plain program: slow, in memory, and each step by the tables.
 #![tactic(auto)]
 
+mod blobs;
 mod caused;
 mod changing;
 pub mod choosing;
@@ -12,6 +13,7 @@ pub mod machine;
 mod purging;
 pub mod step;
 
+pub use blobs::{blobs_after, make_change};
 pub use caused::is_caused;
 pub use choosing::is_chosen;
 pub use legality::is_legal;

@@ -1,11 +1,13 @@
 //! The core, run in memory: plain, and slower than the volume.
 
-ghost use Rattle.std.specs.Prelude.{◌≡◌, [], IfOk};
+ghost use Rattle.std.specs.Prelude.{◌≡◌, [], IfOk, filter, map, not};
 ghost use Rattle.std.specs.List.Sorted.{IsStrictlySortedBy};
 ghost use Rattle.std.specs.Map.{keys_of};
 ghost use Rattle.spec_core.specs.History.{first_state, opening_map, setting_of};
+ghost use Rattle.spec_core.specs.State.{is_unlinked};
 ghost use Rattle.spec_tree.specs.Order.{digest_cmp};
 
+use crate::lookups::is_unlinked;
 use bv_model::History;
 use spec_core::{MapChange, Place, Setting};
 use spec_tree::{Blob, Digest};
@@ -101,6 +103,18 @@ impl Machine {
         ensures { result.now.entries ≡ self.now.state.map }
     {
         &self.map
+    }
+
+    /// The blobs that are present, in the order of their roots, with their sizes.
+    pub fn present_blobs(&self, alloc: Global) -> Result<Vec<(Digest, u64)>, AllocError>
+        ensures { IfOk result (λ blobs. blobs.items ≡ map (λ e. (e.0, e.1.size))
+            (filter (λ e. not (is_unlinked self.now.state e.0)) self.now.state.map)) }
+    {
+        self.map
+            .iter()
+            .filter(|(root, _)| !is_unlinked(&self.leaving, &self.queue, **root))
+            .map(|(root, blob)| (*root, blob.size))
+            .collect(alloc)
     }
 
     /// The number of the next entry.

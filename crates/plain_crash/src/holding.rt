@@ -12,7 +12,7 @@ ghost use Rattle.spec_tree.specs.Order.{digest_cmp};
 ghost use Rattle.plain_crash.specs.Holding.{IsLogOf, IsMapAt, IsLeftAt};
 
 use bv_model::{History, logged_by, synced_by};
-use plain_core::{Logged, logged_of, opening_of};
+use plain_core::{Logged, logged_of, make_change, opening_of};
 use plain_image::{blobs_from, is_whole_from};
 use spec_core::MapChange;
 use spec_disk::Block;
@@ -35,21 +35,6 @@ fn are_whole(
         }
     }
     Ok(true)
-}
-
-/// Makes one change of the log in a map of blobs.
-fn make_change(map: &mut BTreeMap<Digest, Blob>, change: &MapChange) -> Result<(), AllocError>
-    ensures { OnOk result (map.new.entries ≡ changed map.old.entries (change.now ∷ [])) }
-{
-    match change {
-        MapChange::Publish { root, blob } => {
-            map.insert(*root, *blob)?;
-        }
-        MapChange::Purge { root, .. } => {
-            map.remove(root);
-        }
-    }
-    Ok(())
 }
 
 /// The opening map of a history changed by the first `count` changes of its log.
