@@ -56,9 +56,12 @@ pub record LeavesSettled (base : Blocks) (events : List Event) (h : History) : T
   pub map : blobs (now_after base events) ≡ Some (changed (opening_map h) (log_of h))
   pub whole : All (λ entry. IsWhole (now_after base events) entry.0)
       (changed (opening_map h) (log_of h))
-  -- each that was published, or was sound as the run began
-  pub sound : All (λ entry. WasPublished h entry.0 ⊎ IsSound base entry.0
-      → IsSound (now_after base events) entry.0) (changed (opening_map h) (log_of h))
+
+-- And of these blobs each that was published, or was sound as the run began, is sound.
+abbrev pub LeavesSound : Blocks → List Event → History → Type 0
+LeavesSound base events h =
+    All (λ entry. WasPublished h entry.0 ⊎ IsSound base entry.0
+    → IsSound (now_after base events) entry.0) (changed (opening_map h) (log_of h))
 
 -- the last event replied `unmounted`
 abbrev pub IsUnmounted : History → Type 0

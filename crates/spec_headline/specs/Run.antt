@@ -14,8 +14,10 @@ use Rattle.spec_core.specs.History.{History, Legal, opening_map}
 use Rattle.spec_core.specs.Synced.{Caused}
 use Rattle.spec_script.specs.declared.line.ScriptLine.{ScriptLine}
 use Rattle.spec_session.specs.Conform.{Conform, Begins, requests_of}
+use Rattle.spec_session.specs.declared.end.SessionEnd.{SessionEnd}
 use Rattle.spec_session.specs.declared.result.LineResult.{LineResult}
 use Rattle.spec_session.specs.declared.result.LineResult.TheVariants as results
+use Rattle.spec_session.specs.Text.{results_of}
 use Rattle.spec_served.specs.Device.{SeenByAll}
 use Rattle.spec_served.specs.Served.{Served, ServedSome}
 
@@ -25,6 +27,11 @@ pub record Run : Type 0 where
   pub lines : List ScriptLine
   pub history : History
   pub results : ℕ → List LineResult
+
+-- the run of these lines with this history, and with these ends of the sessions, each at the place of
+-- its session's number
+abbrev pub run_of : List ScriptLine → History → List SessionEnd → Run
+run_of lines h ends = record { lines = lines; history = h; results = results_of ends }
 
 -- the program itself, which is session 16 at line 0
 abbrev pub program : Who
