@@ -1,5 +1,5 @@
 //! Reads a source to its end, up to a limit.
-ghost use Rattle.std.specs.Prelude.{◌≡◌, ◌↔◌, ◌+◌, ◌-◌, ◌<◌, ◌≤◌, min, length, IfOk, IfSome, OnErr, IsErrOf};
+ghost use Rattle.std.specs.Prelude.{◌≡◌, ◌↔◌, ◌+◌, ◌-◌, ◌<◌, ◌≤◌, min, vec_len, IfOk, IfSome, OnErr, IsErrOf};
 ghost use Rattle.bv_io.specs.declared.reading.ReadAllFault.TheVariants.{ReadFault, NoMemory};
 ghost use Rattle.bv_io.specs.Faults.{CountsFaultsWhere};
 ghost use Rattle.bv_io.specs.Streams.{TakesAll, TakesSome, taken_count};
@@ -46,6 +46,7 @@ pub fn read_all<S: Source>(
 ) -> Result<Vec<u8>, ReadAllFault>
     ensures ok { IfOk result
         (λ bytes. TakesAll (S.seen source.old).told (S.seen source.new).told bytes.items) }
+    ensures within { IfOk result (λ bytes. vec_len bytes ≤ limit) }
     ensures err { OnErr result (TakesSome (S.seen source.old).told (S.seen source.new).told) }
     ensures too_long { IfSome (taken_count (S.seen source.old).told (S.seen source.new).told)
         (λ n. (n ≤ limit + 1) × ((result ≡ Err ReadAllFault.TooLong) ↔ (limit < n))) }
