@@ -38,7 +38,7 @@ pub(crate) fn format<D: Device, K: Sink>(dev: &mut D, geometry: Geometry, out: &
 }
 
 /// Why the run is refused where no volume was made.
-fn refusal_of(fault: FormatFault) -> Refusal
+pub fn refusal_of(fault: FormatFault) -> Refusal
     ensures { result ≡ refusal_of fault }
 {
     match fault {

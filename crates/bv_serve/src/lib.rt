@@ -20,6 +20,7 @@ mod tests;
 mod upgrade;
 
 pub use command::Command;
+pub use format::refusal_of;
 pub use line::Line;
 pub use lines::{print, refuse};
 pub use number::read_number;
