@@ -2,4 +2,8 @@
 #![tactic(auto)]
 
 #[cfg(test)]
+mod recoveries;
+#[cfg(test)]
+mod samples;
+#[cfg(test)]
 mod volumes;

@@ -1,131 +1,15 @@
-//! Runs of the commands that read or recover a volume, on devices in memory whose bytes are written
-//! out by hand from the tables of the format. The checksum of the info block is zlib's.
+//! What `list`, `check`, `recover` and `upgrade` print of volumes that are whole or wrong in one thing.
 
-use bv_device::{Block, CallKind, MemDevice};
-use bv_io::{MemSink, MemSource};
-use bv_serve::{Status, run};
-use std::alloc::{AllocError, Global};
+use crate::samples::{CLEAN, Held, ROOT, device_of, device_with, prints};
+use bv_device::MemDevice;
+use bv_serve::Status;
+use std::alloc::Global;
 use std::process::Abort;
 use std::test::Fail;
-
-/// The superblock of 64 data blocks, 128 nodes and 16 journal blocks with no blob, but its zeros.
-const SUPER: [u8; 88] = [
-    0x62, 0x6c, 0x6f, 0x62, 0x76, 0x6f, 0x6c, 0x00, 0x70, 0x72, 0x6f, 0x66, 0x69, 0x6c, 0x65, 0x31,
-    0x01, 0x00, 0x00, 0x00, 0x00, 0x00, 0x00, 0x00, 0x40, 0x00, 0x00, 0x00, 0x00, 0x00, 0x00, 0x00,
-    0x80, 0x00, 0x00, 0x00, 0x00, 0x00, 0x00, 0x00, 0x10, 0x00, 0x00, 0x00, 0x00, 0x00, 0x00, 0x00,
-    0x01, 0x00, 0x00, 0x00, 0x00, 0x00, 0x00, 0x00, 0x01, 0x00, 0x00, 0x00, 0x00, 0x00, 0x00, 0x00,
-    0x00, 0x00, 0x00, 0x00, 0x00, 0x00, 0x00, 0x00, 0x01, 0x00, 0x00, 0x00, 0x00, 0x00, 0x00, 0x00,
-    0x00, 0x00, 0x00, 0x00, 0x00, 0x00, 0x00, 0x00,
-];
-
-/// The info block of an empty journal whose first entry will have number 1, but its zeros.
-const INFO: [u8; 36] = [
-    0x6c, 0x6e, 0x72, 0x6a, 0x62, 0x6f, 0x6c, 0x62, 0x00, 0x00, 0x00, 0x00, 0x00, 0x00, 0x00, 0x00,
-    0x00, 0x00, 0x00, 0x00, 0x00, 0x00, 0x00, 0x00, 0x01, 0x00, 0x00, 0x00, 0x00, 0x00, 0x00, 0x00,
-    0x3e, 0xc0, 0xc5, 0x91,
-];
-
-/// The inode of the two bytes `hi`, which lie in data block 1.
-const INODE: [u8; 64] = [
-    0x01, 0x00, 0x01, 0x00, 0xff, 0xff, 0xff, 0xff, 0xdf, 0x6d, 0x2b, 0xb7, 0xda, 0xc8, 0xa2, 0x7c,
-    0x99, 0xa0, 0xac, 0x49, 0x8f, 0xab, 0xc1, 0x06, 0xe9, 0x4e, 0xab, 0x93, 0xdc, 0x88, 0xd4, 0x0b,
-    0x2e, 0x31, 0x3a, 0xea, 0xe3, 0x3c, 0xb5, 0xa6, 0x02, 0x00, 0x00, 0x00, 0x00, 0x00, 0x00, 0x00,
-    0x01, 0x00, 0x00, 0x00, 0x01, 0x00, 0x00, 0x00, 0x01, 0x00, 0x00, 0x00, 0x00, 0x00, 0x01, 0x00,
-];
-
-/// The magic of the journal's entries, and the number 5.
-const STALE: [u8; 16] = [
-    0x79, 0x72, 0x74, 0x6e, 0x62, 0x6f, 0x6c, 0x62, 0x05, 0x00, 0x00, 0x00, 0x00, 0x00, 0x00, 0x00,
-];
-
-/// What a device of 83 blocks holds.
-#[derive(Clone, Copy, Debug, PartialEq, Eq)]
-enum Held {
-    Zeros,
-    /// A volume without a blob.
-    Empty,
-    /// The same, where the bit of data block 5 is set.
-    WrongBit,
-    /// The same, where slot 2 bears an entry's magic and the number 5.
-    StaleSlot,
-    /// A volume with the blob `hi`.
-    OneBlob,
-    /// The same, whose first byte is another.
-    DamagedBlob,
-}
-
-impl Held {
-    /// Whether it is a volume with a blob.
-    fn has_blob(self) -> bool {
-        matches!(self, Held::OneBlob | Held::DamagedBlob)
-    }
-}
-
-/// Block `at` of what is held.
-fn block_of(held: Held, at: u64) -> Block {
-    let mut block = [0; 8192];
-    match (at, held) {
-        (_, Held::Zeros) => {}
-        (0, _) => block[..88].copy_from_slice(&SUPER),
-        (1, Held::WrongBit) => block[0] = 33,
-        (1, _) => block[0] = 1,
-        (3, _) => block[..36].copy_from_slice(&INFO),
-        (6, Held::StaleSlot) => block[..16].copy_from_slice(&STALE),
-        _ => {}
-    }
-    if held.has_blob() {
-        match at {
-            0 => {
-                block[64] = 1;
-                block[72] = 2;
-                block[80] = 1;
-            }
-            1 => block[0] = 3,
-            2 => block[..64].copy_from_slice(&INODE),
-            20 => {
-                block[0] = if held == Held::OneBlob { b'h' } else { b'H' };
-                block[1] = b'i';
-            }
-            _ => {}
-        }
-    }
-    block
-}
-
-fn device_of(alloc: Global, held: Held) -> Result<MemDevice, AllocError> {
-    let mut blocks = Vec::new(alloc);
-    for at in 0..83 {
-        blocks.push(block_of(held, at))?;
-    }
-    Ok(MemDevice::from_blocks(alloc, blocks))
-}
-
-/// Runs one command. The status and what was printed are these, and the device comes back.
-fn prints<R: Abort>(
-    rt: &R,
-    alloc: Global,
-    dev: MemDevice,
-    word: &str,
-    status: Status,
-    text: &str,
-) -> Result<MemDevice, Fail> {
-    let mut words = Vec::new(alloc);
-    words.push(String::from_str(alloc, word)?)?;
-    let mut input = MemSource::new(Vec::new(alloc), Vec::new(alloc));
-    let mut out = MemSink::new(Vec::new(alloc), alloc);
-    let (ended, dev) = run(alloc, &words, dev, &mut input, &mut out);
-    assert_eq!(rt; ended, status, "{word}");
-    assert_eq!(rt; out.bytes(), text.as_bytes(), "{word}");
-    Ok(dev)
-}
-
-const CLEAN: &str = "check: clean\nblobs 0\nbytes 0\nstale 0\n";
 
 const MAGIC: &str = "volume: magic\n";
 
 const BIT: &str = "volume: bitmap 5 1\n";
-
-const ROOT: &str = "df6d2bb7dac8a27c99a0ac498fabc106e94eab93dc88d40b2e313aeae33cb5a6 2\n";
 
 const DAMAGED: &str =
     "damaged df6d2bb7dac8a27c99a0ac498fabc106e94eab93dc88d40b2e313aeae33cb5a6\nfaults 1\n";
@@ -178,15 +62,76 @@ fn a_recovery_wipes_stale_slots_and_leaves_the_blobs(rt: HostRuntime) -> Result<
     Ok(())
 }
 
+/// What a check prints of a node that can't be read, behind the line of the node itself.
+const LOST: &str =
+    "fault: bitmap 1 1\nfault: count blobs 1 0\nfault: count used-blocks 2 1\nfault: count used-nodes 1 0\nfaults 5\n";
+
+/// A device with one byte changed, on which each command but `check` prints this line.
+fn is_refused<R: Abort>(
+    rt: &R,
+    alloc: Global,
+    version: u8,
+    change: (u64, usize, u8),
+    line: &str,
+) -> Result<MemDevice, Fail> {
+    let dev = device_with(alloc, Held::OneBlob, version, change)?;
+    let dev = prints(rt, alloc, dev, "list", Status::Volume, line)?;
+    let dev = prints(rt, alloc, dev, "recover", Status::Volume, line)?;
+    let dev = prints(rt, alloc, dev, "upgrade", Status::Volume, line)?;
+    assert_eq!(rt; dev.trace_len(), 0, "{line}");
+    Ok(dev)
+}
+
 #[test]
-fn a_read_that_fails_is_a_device_fault(rt: HostRuntime) -> Result<(), Fail> {
+fn a_wrong_byte_is_refused_by_the_first_condition_that_fails(rt: HostRuntime) -> Result<(), Fail> {
     let alloc = rt.alloc();
-    // A volume without a blob is read in 83 blocks at most; whichever read fails first is told.
-    for word in ["list", "check", "recover"] {
-        for nth in 1..4 {
-            let mut dev = device_of(alloc, Held::OneBlob)?;
-            dev.fail(alloc, CallKind::Read, nth)?;
-            let _ = prints(&rt, alloc, dev, word, Status::Device, "device: fault\n")?;
+    // The byte that is changed; the line of every command.
+    let rows = [
+        ((0, 3, 0), "volume: magic\n"),
+        ((0, 15, 0), "volume: magic\n"),
+        ((0, 16, 3), "volume: version 3\n"),
+        ((0, 24, 1), "volume: counts blocks 1\n"),
+        ((0, 32, 127), "volume: counts nodes 127\n"),
+        ((0, 40, 5), "volume: counts journal 5\n"),
+        ((0, 48, 2), "volume: counts bitmap-blocks 2\n"),
+        ((0, 56, 2), "volume: counts node-blocks 2\n"),
+        ((0, 64, 129), "volume: counts blobs 129\n"),
+        ((0, 72, 0), "volume: counts used-blocks 0\n"),
+        ((0, 80, 129), "volume: counts used-nodes 129\n"),
+        ((0, 22, 1), "volume: zero 22\n"),
+        ((0, 8191, 1), "volume: zero 8191\n"),
+        ((0, 41, 1), "volume: short 339 83\n"),
+        ((3, 0, 0), "volume: info magic\n"),
+        ((3, 32, 0), "volume: info checksum\n"),
+        ((3, 36, 1), "volume: info zero\n"),
+    ];
+    for (change, line) in rows {
+        for version in [1, 2] {
+            let dev = is_refused(&rt, alloc, version, change, line)?;
+            let _ = prints(&rt, alloc, dev, "check", Status::Volume, line)?;
+        }
+    }
+    // The same, of metadata that isn't well formed; what a check prints first, and then.
+    let rows = [
+        ((1, 0, 7), "bitmap 2 1\n", "faults 1\n"),
+        ((1, 0, 1), "bitmap 1 0\n", "faults 1\n"),
+        ((1, 8191, 128), "bitmap 65535 1\n", "faults 1\n"),
+        ((0, 64, 2), "count blobs 2 1\n", "faults 1\n"),
+        ((0, 72, 3), "count used-blocks 3 2\n", "faults 1\n"),
+        ((0, 80, 2), "count used-nodes 2 1\n", "faults 1\n"),
+        ((2, 128, 2), "node 2 flags 2\n", "faults 1\n"),
+        ((2, 138, 1), "node 2 zero 10\n", "faults 1\n"),
+        ((2, 2, 3), "node 0 version 3\n", LOST),
+        ((2, 48, 2), "node 0 count 2 1\n", LOST),
+        ((2, 56, 0), "node 0 extent 0 0\n", LOST),
+        ((2, 4, 5), "node 0 link 0\n", LOST),
+    ];
+    for (change, what, rest) in rows {
+        let line = format!(in alloc; "volume: {what}")?;
+        let report = format!(in alloc; "fault: {what}{rest}")?;
+        for version in [1, 2] {
+            let dev = is_refused(&rt, alloc, version, change, line.as_str())?;
+            let _ = prints(&rt, alloc, dev, "check", Status::Damage, report.as_str())?;
         }
     }
     Ok(())
