@@ -1,0 +1,10 @@
+pub mod AddLemmas
+pub mod CallerLemmas
+pub mod EntryLemmas
+pub mod FetchLemmas
+pub mod GainLemmas
+pub mod LookLemmas
+pub mod ServeLemmas
+pub mod SinceLemmas
+pub mod ToldLemmas
+pub mod WroteLemmas

@@ -1,0 +1,7 @@
+use Rattle.bv_shared.proofs.shared.Shared.into_volume.Goals as goal
+
+pub returns-clause-caused : goal.returns-clause-caused
+returns-clause-caused g c = c.args.self.since.1
+
+pub returns-clause-disk : goal.returns-clause-disk
+returns-clause-disk g c = c.args.self.since.3

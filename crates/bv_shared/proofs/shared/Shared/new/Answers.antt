@@ -1,0 +1,5 @@
+use Rattle.bv_shared.proofs.SinceLemmas.{since_fresh}
+use Rattle.bv_shared.proofs.shared.Shared.new.Goals as goal
+
+pub invariant_of-result : goal.invariant_of-result
+invariant_of-result g c = record { since = since_fresh _ _ c.of-opening.ensures c.requires.fresh c.requires.disk }

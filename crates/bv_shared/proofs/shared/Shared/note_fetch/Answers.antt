@@ -1,0 +1,14 @@
+use Rattle.std.proofs.Common.{refl}
+use Rattle.spec_core.specs.declared.act.Act.TheVariants as acts
+use Rattle.bv_volume.specs.Fetched.{fetch_reply}
+use Rattle.bv_shared.proofs.GainLemmas.{basis_by}
+use Rattle.bv_shared.proofs.SinceLemmas.{since_by}
+use Rattle.bv_shared.proofs.shared.Shared.note_fetch.Goals as goal
+
+pub invariant_of-self : goal.invariant_of-self
+invariant_of-self g c = record {
+  since = since_by c.args.self.now.opening.value c.args.self.now.volume c.fetch-answer.new.self c.args.who (acts.Fetch c.args.slot c.args.window) (fetch_reply c.fetch-answer.result) c.fetch-answer.ensures.row refl c.args.self.now.since;
+}
+
+pub returns-clause-basis : goal.returns-clause-basis
+returns-clause-basis g c = basis_by c.args.self.now.volume c.fetch-answer.new.self c.args.who (acts.Fetch c.args.slot c.args.window) (fetch_reply c.fetch-answer.result) c.fetch-answer.ensures.row

@@ -1,0 +1,20 @@
+use Rattle.std.proofs.Common.{refl}
+use Rattle.spec_core.specs.declared.act.Act.TheVariants as acts
+use Rattle.bv_volume.specs.Answers as V
+use Rattle.bv_shared.proofs.GainLemmas.{basis_by, lists_by, lists_none}
+use Rattle.bv_shared.proofs.SinceLemmas.{since_by}
+use Rattle.bv_shared.proofs.shared.Shared.note_list.Goals as goal
+
+pub invariant_of-self : goal.invariant_of-self
+invariant_of-self g c = record {
+  since = since_by c.args.self.now.opening.value c.args.self.now.volume c.list.new.self c.args.who (acts.List) (V.list_reply c.list.result) c.list.ensures.row refl c.args.self.now.since;
+}
+
+pub returns-clause-basis : goal.returns-clause-basis
+returns-clause-basis g c = basis_by c.args.self.now.volume c.list.new.self c.args.who (acts.List) (V.list_reply c.list.result) c.list.ensures.row
+
+pub returns-clause-ok : goal.returns-clause-ok
+returns-clause-ok g c = lists_by c.args.self.now.volume c.list.new.self c.requires.within c.args.who c.list.result c.list.ensures.row c.list.ensures.list
+
+pub returns-clause-err : goal.returns-clause-err
+returns-clause-err g c = lists_none c.args.self.now.volume c.list.new.self c.args.who c.list.result c.list.ensures.row

@@ -1,0 +1,17 @@
+use Rattle.std.proofs.Common.{refl}
+use Rattle.spec_core.specs.declared.act.Act.TheVariants as acts
+use Rattle.bv_ledger.specs.Answers as A
+use Rattle.bv_shared.proofs.GainLemmas.{gains_by, basis_by}
+use Rattle.bv_shared.proofs.SinceLemmas.{since_by}
+use Rattle.bv_shared.proofs.shared.Shared.note_unlink.Goals as goal
+
+pub invariant_of-self : goal.invariant_of-self
+invariant_of-self g c = record {
+  since = since_by c.args.self.now.opening.value c.args.self.now.volume c.unlink.new.self c.args.who (acts.Unlink c.args.root) (A.unlink_reply c.unlink.result) c.unlink.ensures.row refl c.args.self.now.since;
+}
+
+pub returns-clause-basis : goal.returns-clause-basis
+returns-clause-basis g c = basis_by c.args.self.now.volume c.unlink.new.self c.args.who (acts.Unlink c.args.root) (A.unlink_reply c.unlink.result) c.unlink.ensures.row
+
+pub returns-clause-gains : goal.returns-clause-gains
+returns-clause-gains g c = gains_by c.args.self.now.volume c.unlink.new.self c.requires.within c.args.who (acts.Unlink c.args.root) (A.unlink_reply c.unlink.result) c.unlink.ensures.row

@@ -1,0 +1,5 @@
+-- What contracts see of a volume behind the lock.
+pub mod Answers
+pub mod Entries
+pub mod ServeLaws
+pub mod Since
