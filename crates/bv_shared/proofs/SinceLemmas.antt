@@ -53,7 +53,7 @@ faults_more : (es : List CoreEvent) (e : CoreEvent) → faults_of (es ++ e ∷ [
 faults_more [] e = append-nil (fault_of e.reply)
 faults_more (x ∷ es) e = ap (λ (ys : List ℕ). fault_of x.reply ++ ys) (faults_more es e) ∙ sym (append_assoc (fault_of x.reply) (faults_of es) (fault_of e.reply))
 
-caused_more : (v w : Seen) (who : Who) (act : Act) (reply : Reply) → Happens v w who act reply → (first : ℕ) → first ≤ v.store.faults → Caused v.history first v.store.faults → Caused w.history first w.store.faults
+pub caused_more : (v w : Seen) (who : Who) (act : Act) (reply : Reply) → Happens v w who act reply → (first : ℕ) → first ≤ v.store.faults → Caused v.history first v.store.faults → Caused w.history first w.store.faults
 caused_more v w who act reply happens first rose k =
     subst (λ (h : History). RiseWithin first w.store.faults (faults_of h.events)) (sym happens.history)
     (subst (λ (fs : List ℕ). RiseWithin first w.store.faults fs) (sym (faults_more v.history.events (event_of who act reply w.store.calls)))
@@ -76,7 +76,7 @@ one_disk b None new P grows k = subst (λ (x : Option Disk). AreOfOneDisk b x) (
 one_disk None (Some d) new P grows k = absurd k
 one_disk (Some b) (Some d) new P grows k = subst (λ (x : Option Disk). AreOfOneDisk (Some b) x) (sym grows.1) k
 
-one_disk_more : (v w : Seen) (who : Who) (act : Act) (reply : Reply) → Happens v w who act reply → AreOfOneDisk v.store.began v.store.told → AreOfOneDisk w.store.began w.store.told
+pub one_disk_more : (v w : Seen) (who : Who) (act : Act) (reply : Reply) → Happens v w who act reply → AreOfOneDisk v.store.began v.store.told → AreOfOneDisk w.store.began w.store.told
 one_disk_more v w who act reply happens k =
     subst (λ (b : Option Disk). AreOfOneDisk b w.store.told) (sym happens.began)
     (one_disk v.store.began v.store.told w.store.told (λ d more. (more ≡ []) ⊎ MayCall act) happens.told k)

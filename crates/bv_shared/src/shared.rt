@@ -1,5 +1,5 @@
 //! The value behind the lock, and how it begins and ends.
-ghost use Rattle.std.specs.Prelude.{◌≡◌, [], IfOk, IfErr};
+ghost use Rattle.std.specs.Prelude.{◌≡◌, ◌≤◌, [], IfOk, IfErr};
 ghost use Rattle.spec_core.specs.Synced.{Caused};
 ghost use Rattle.bv_shared.specs.Since.{AreOfOneDisk, Since, Since-prop};
 
@@ -48,6 +48,7 @@ impl<'t, S: Store> Shared<'t, S> {
         ensures caused { Caused result.history self.entry.opening.value.store.faults
             result.store.faults }
         ensures disk { AreOfOneDisk result.store.began result.store.told }
+        ensures later { self.entry.opening.value.store.faults ≤ result.store.faults }
     {
         let Shared {
             volume,

@@ -5,3 +5,6 @@ returns-clause-caused g c = c.args.self.since.1
 
 pub returns-clause-disk : goal.returns-clause-disk
 returns-clause-disk g c = c.args.self.since.3
+
+pub returns-clause-later : goal.returns-clause-later
+returns-clause-later g c = c.args.self.since.0
