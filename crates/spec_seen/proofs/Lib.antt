@@ -2,4 +2,5 @@ pub mod ByLineLemmas
 pub mod CutLemmas
 pub mod HeldLemmas
 pub mod PageLemmas
+pub mod VersionLemmas
 pub mod WhereLemmas

@@ -2,3 +2,4 @@
 pub mod ByLine
 pub mod Held
 pub mod Pages
+pub mod Versions

@@ -3,6 +3,7 @@
 ghost use Rattle.spec_seen.specs.ByLine.{LinesAddOnce};
 ghost use Rattle.spec_seen.specs.Held.{HeldBlobsStayPublished, HeldBlobsStayWhere};
 ghost use Rattle.spec_seen.specs.Pages.{PagesShow};
+ghost use Rattle.spec_seen.specs.Versions.{MapHasVersions};
 
 /// A line whose result came of pages as the device has them says of the device what it should.
 pub fn pages_of_the_device_show_what_it_has()
@@ -23,4 +24,10 @@ pub fn lines_add_one_blob_at_most()
 /// While a slot holds a root, its blob's blocks stay the same, where lines made the history.
 pub fn a_held_blob_stays_where_it_is()
     ensures { HeldBlobsStayWhere }
+{}
+
+/// A blob of the map has the volume's version where it was published in this mount, and else that of
+/// the opening image.
+pub fn a_blob_of_the_map_has_its_publishers_version()
+    ensures { MapHasVersions }
 {}
