@@ -4,9 +4,10 @@ WAL of as many bytes, interleaved, best of five, at two sizes that show the grow
 An entry has three payloads, as that of a small add: superblock, bitmap, and one of 128 blocks of the
 node map. `list` reads and checks every entry and surveys the metadata; with the time of an empty ring
 taken off it is the scan. `recover` does the same, and writes the metadata in place. Ours are whole
-processes, SQLite's are calls within one. MB/s are 10^6 bytes of the ring a second. A ratio is SQLite's
-time to ours, each per byte. zlib's CRC-32 over the ring, beside it, is about what checking entries
-costs at least; `bench/crc32.py` has ours.
+processes, SQLite's are calls within one. The first table has the clock, the second processor time, on
+which other work of the machine and its disk have no part. MB/s are 10^6 bytes of the ring a second. A
+ratio is SQLite's time to ours, each per byte. zlib's CRC-32 over the ring, beside it, is about what
+checking entries costs at least; `bench/crc32.py` has ours.
 """
 import pathlib
 import shutil
@@ -16,7 +17,7 @@ import tempfile
 import time
 import zlib
 
-from measure import TOP, blobfs, most_memory, table, timed
+from measure import TOP, blobfs, most_memory, table, timed_both
 
 sys.path.insert(0, str(TOP / "scripts"))
 from volume import entry, info_block, metadata  # noqa: E402
@@ -75,21 +76,22 @@ class Ours:
         write_image(self.empty, journal, False)
         self.size = self.entries * 5 * BLOCK
 
-    def run(self, word, image):
-        return timed([self.program, f"file:{image}", word], "/dev/null")
+    def run(self, word, image, wanted):
+        clock, processor, text = timed_both([self.program, f"file:{image}", word], "/dev/null")
+        if text != wanted:
+            raise SystemExit(f"{word} printed {text[:100]!r}")
+        return clock, processor
 
     def once(self):
-        """The seconds of a scan and of a recovery; the volume is then as it was."""
-        before, _ = self.run("list", self.empty)
-        scan, text = self.run("list", self.image)
-        if text:
-            raise SystemExit("the volume has blobs")
-        recover, text = self.run("recover", self.image)
-        if text != f"recovered {self.entries}\n":
-            raise SystemExit(f"recover printed {text!r}")
+        """The seconds of `list`, with an empty ring too, and of `recover`; the volume is then as it was."""
+        found = {
+            "empty": self.run("list", self.empty, ""),
+            "list": self.run("list", self.image, ""),
+            "recover": self.run("recover", self.image, f"recovered {self.entries}\n"),
+        }
         with open(self.image, "r+b") as file:
             file.write(self.head)
-        return {"list": scan, "scan": max(scan - before, 1e-9), "recover": recover}
+        return found
 
 
 class Sqlite:
@@ -104,31 +106,51 @@ class Sqlite:
         for end in ["", "-wal"]:
             shutil.copy(f"{self.kept}{end}", f"{self.used}{end}")
         pathlib.Path(f"{self.used}-shm").unlink(missing_ok=True)
-        found = {}
-        start = time.perf_counter()
+        start = now()
         base = sqlite3.connect(self.used)
         base.execute("select count(*) from sqlite_schema").fetchall()
-        found["query"] = time.perf_counter() - start
-        start = time.perf_counter()
-        base.execute("pragma synchronous=full")
+        query = now()
         base.execute("pragma wal_checkpoint(truncate)").fetchall()
-        found["both"] = found["query"] + time.perf_counter() - start
+        end = now()
         base.close()
-        return found
+        return {"query": since(start, query), "both": since(start, end)}
 
 
-def crc_seconds(path, size):
+def now():
+    """The clock, and this process's processor time."""
+    return time.perf_counter(), time.process_time()
+
+
+def since(start, end):
+    return end[0] - start[0], end[1] - start[1]
+
+
+def of_crc(path, size):
     """How long zlib's CRC-32 takes over so many bytes of a file's ring."""
     with open(path, "rb") as file:
         data = file.read(size)
-    start = time.perf_counter()
+    start = now()
     zlib.crc32(data)
-    return time.perf_counter() - start
+    return since(start, now())
+
+
+def row_of(best, ours, other, way):
+    """What a table says of one size: `way` is 0 for the clock and 1 for processor time."""
+    took = {key: max(seconds[way], 1e-9) for key, seconds in best.items()}
+    scan = max(took["list"] - took["empty"], 1e-9)
+    per_byte = ours.size / other.size
+    return [
+        str(ours.size // BLOCK), f"{1000 * took['list']:.0f}", f"{1000 * took['recover']:.0f}",
+        f"{ours.size / scan / 1e6:.0f}", f"{ours.size / took['crc'] / 1e6:.0f}",
+        f"{1000 * took['query']:.0f}", f"{1000 * took['both']:.0f}",
+        f"{took['query'] * per_byte / took['list']:.2f}",
+        f"{took['both'] * per_byte / took['recover']:.2f}",
+    ]
 
 
 def main():
     program = pathlib.Path(sys.argv[1]) if len(sys.argv) > 1 else blobfs()
-    rows = []
+    tables = [[], []]
     for journal in SIZES:
         with tempfile.TemporaryDirectory() as name:
             folder = pathlib.Path(name)
@@ -136,23 +158,18 @@ def main():
             other = Sqlite(folder, ours.size)
             best = {}
             for _ in range(RUNS):
-                found = {**ours.once(), **other.once(), "crc": crc_seconds(ours.image, ours.size)}
+                found = {**ours.once(), **other.once(), "crc": of_crc(ours.image, ours.size)}
                 for key, seconds in found.items():
-                    best[key] = min(best.get(key, seconds), seconds)
-            per_byte = ours.size / other.size
-            rows.append([
-                str(ours.size // BLOCK), f"{1000 * best['list']:.0f}", f"{1000 * best['recover']:.0f}",
-                f"{ours.size / best['scan'] / 1e6:.0f}", f"{ours.size / best['crc'] / 1e6:.0f}",
-                f"{1000 * best['query']:.0f}", f"{1000 * best['both']:.0f}",
-                f"{best['query'] * per_byte / best['list']:.2f}",
-                f"{best['both'] * per_byte / best['recover']:.2f}",
-                most_memory([program, f"file:{ours.image}", "list"], "/dev/null"),
-            ])
-    print(f"entries of five blocks, best of {RUNS}")
-    table([
-        "blocks", "list ms", "recover ms", "scan MB/s", "zlib crc32", "query ms", "and checkpoint",
-        "query to list", "both to recover", "list MiB",
-    ], rows)
+                    best[key] = [min(pair) for pair in zip(best.get(key, seconds), seconds)]
+            memory = most_memory([program, f"file:{ours.image}", "list"], "/dev/null")
+            for way, rows in enumerate(tables):
+                rows.append([*row_of(best, ours, other, way), memory])
+    for name, rows in zip(["by the clock", "by processor time"], tables):
+        print(f"entries of five blocks, {name}, best of {RUNS}")
+        table([
+            "blocks", "list ms", "recover ms", "scan MB/s", "zlib crc32", "query ms", "and checkpoint",
+            "query to list", "both to recover", "list MiB",
+        ], rows)
 
 
 main()

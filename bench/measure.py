@@ -96,12 +96,18 @@ def timed(words, stdin):
         return time.perf_counter() - start, done.stdout
 
 
-def processor_seconds(words, stdin):
-    """One run: the seconds that it had a processor, in its own code and in the kernel."""
+def timed_both(words, stdin):
+    """One run: seconds by the clock, the seconds that it had a processor, in its own code and in the
+    kernel, and what it printed."""
     before = resource.getrusage(resource.RUSAGE_CHILDREN)
-    timed(words, stdin)
+    seconds, text = timed(words, stdin)
     after = resource.getrusage(resource.RUSAGE_CHILDREN)
-    return after.ru_utime + after.ru_stime - before.ru_utime - before.ru_stime
+    return seconds, after.ru_utime + after.ru_stime - before.ru_utime - before.ru_stime, text
+
+
+def processor_seconds(words, stdin):
+    """One run: the seconds that it had a processor."""
+    return timed_both(words, stdin)[1]
 
 
 def instructions(words, stdin):
