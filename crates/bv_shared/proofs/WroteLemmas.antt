@@ -30,7 +30,8 @@ use Rattle.bv_volume.specs.Adding.{Writes}
 use Rattle.bv_volume.specs.Answers.{put_reply}
 use Rattle.bv_volume.specs.Events.{Does}
 use Rattle.bv_volume.specs.Seen.{Seen}
-use Rattle.bv_volume.specs.Sessions.{HasPut, PutsAreWrites, blocks_written, bytes_of, puts_after, puts_from}
+use Rattle.bv_volume.specs.Sessions.{HasPut, PutsAreWrites, blocks_written, bytes_of}
+use Rattle.spec_served.specs.Adds.{puts_after, puts_from}
 use Rattle.bv_volume.specs.declared.putting.PutFault.{PutFault}
 use Rattle.bv_volume.specs.declared.putting.PutFault.TheVariants as put
 use Rattle.bv_volume.specs.declared.tokens.Admitted.{Admitted}
