@@ -3,7 +3,6 @@ use Rattle.std.specs.Prelude.{◌≡◌, ℕ, List, [], ◌∷◌, ◌++◌, map
 use Rattle.spec_disk.specs.declared.event.Event.{Event}
 use Rattle.spec_disk.specs.Disk.{Blocks, block, now_after, reads_right}
 use Rattle.spec_disk.specs.Images.{IsSettled}
-use Rattle.spec_disk.specs.Laws.{AreWhole}
 use Rattle.spec_image.specs.Chain.{BlobRecord}
 use Rattle.spec_image.specs.Stored.{fetched_bytes, fetched_path}
 use Rattle.spec_core.specs.History.{last_state}
@@ -11,6 +10,8 @@ use Rattle.spec_core.specs.State.{find}
 use Rattle.spec_core.specs.declared.event.CoreEvent.{CoreEvent}
 use Rattle.spec_session.specs.Own.{Named}
 use Rattle.spec_session.specs.Told.{present_blobs}
+use Rattle.spec_served.specs.Adds.{AreByLine}
+use Rattle.spec_served.specs.Places.{blocks_by, publisher}
 use Rattle.spec_tree.specs.declared.Digest.{Digest}
 use Rattle.spec_tree.specs.declared.blob.Blob.{Blob}
 use Rattle.bv_proof.specs.declared.raw.RawWindow.{RawWindow}
@@ -56,15 +57,17 @@ abbrev pub ReadsRight : List Event → Type 0
 ReadsRight events = (b : ℕ) → IsTrue (reads_right events b)
 
 -- A window that was fetched by this event, after these entries, is that of the blob as the disk then
--- has it at the blocks where the blob lies: where the device tells, was settled at the opening, reads
--- give what it has, and each of these blocks has 8,192 bytes.
+-- has it at the blocks where it lies by the entries: where the device tells, was settled at the opening
+-- and reads give what it has, and lines made the events.
 abbrev pub IsOnDisk
-    : Basis → List Event → List Entry → (Digest → List ℕ) → Named → CoreEvent → RawWindow → Type 0
-IsOnDisk basis events before lies blob e raw =
+    : Basis → List Event → List Entry → Named → CoreEvent → RawWindow → Type 0
+IsOnDisk basis events before blob e raw =
     IfSome basis.told (λ d. IsSettled d.trace → ReadsRight (take e.calls events)
-    → let now = now_after (now_after d.base d.trace) (take e.calls events) in
-    let blocks = blocks_at now (lies blob.0) in
-    AreWhole blocks
-    → IsSomeAnd (find (last_state (history_of basis before) basis.next).map blob.0) (λ b.
+    → AreByLine [] (events_in before)
+    → let base = now_after d.base d.trace in
+    let at = blocks_by base events (events_in before) blob.0
+    (publisher blob.0 None (events_in before)) in
+    let blocks = blocks_at (now_after base (take e.calls events)) at in
+    IsSomeAnd (find (last_state (history_of basis before) basis.next).map blob.0) (λ b.
     (raw.bytes.items ≡ fetched_bytes (record_of blob.0 b) blocks raw.window)
     × (raw.path.items ≡ fetched_path (record_of blob.0 b) blocks raw.window)))

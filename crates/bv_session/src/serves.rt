@@ -1,7 +1,6 @@
 //! The event calls of a value behind the lock, which know nothing of the lock.
 ghost use Rattle.std.specs.Prelude.{◌≡◌, ℕ, ◌+◌, ◌<◌, ◌≤◌, true, false, List, Some, None, OnErr, IfOk, IfErr, IfSome, IsSomeAnd, length};
 ghost use Rattle.spec_tree.specs.Tree.{need_of, windows_of};
-ghost use Rattle.spec_tree.specs.declared.Digest.{Digest as Root};
 ghost use Rattle.spec_core.specs.Synced.{Caused};
 ghost use Rattle.spec_core.specs.declared.act.Act.TheVariants.{Begin, Admit, Put, Settle, Retire, Open, Fetch, Read, Scan, Close, Unlink, Sync, List as ListAll};
 ghost use Rattle.spec_core.specs.declared.reply.Reply.TheVariants.{Granted, Admitted, Written, Published, Retired, Opened, Fetched, Reading, Closed, Unlinked, Synced, Listed};
@@ -60,9 +59,6 @@ pub trait Serves: Keeps<Entry = Entry, Basis = Basis> {
 
     /// How many calls of the device have failed.
     ghost fault_count: { Self → ℕ };
-
-    /// The device's blocks where a blob lies, in order.
-    ghost lies: { Self → Root → List ℕ };
 
     /// Puts an add under way, of a blob of at most 65,535 blocks. The session has no other.
     fn begin(
@@ -233,7 +229,7 @@ pub trait Serves: Keeps<Entry = Entry, Basis = Basis> {
             (λ e. IfDone a (λ x. IfSome
             (slot_holds slot (own_events Self.session who.session (Self.entries self.old)))
             (λ blob. IsOnDisk (Self.basis self.old) (device_events self.new)
-            (Self.entries self.old) (lies self.old) blob e.event x)))) }
+            (Self.entries self.old) blob e.event x)))) }
         ensures done { IfOk result (λ a. IfDone a (λ x.
             IfSome (slot_holds slot (own_events Self.session who.session (Self.entries self.old)))
             (λ blob. (x.window ≡ window) × FitsIn blob.1 x))) }

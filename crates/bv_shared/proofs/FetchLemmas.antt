@@ -3,9 +3,8 @@ use Rattle.std.proofs.Common.{◌≡◌, ◌<◌, ◌⊎◌, ℕ, Option, Some, 
 use Rattle.std.specs.Prelude.{Result, Ok, Err, IfOk, IfSome, IsSomeAnd}
 use Rattle.std.proofs.lemmas.List.{append-nil}
 use Rattle.std.proofs.lemmas.Simd.{map-map}
-use Rattle.spec_disk.specs.Disk.{block, now_after}
+use Rattle.spec_disk.specs.Disk.{Blocks, block, now_after}
 use Rattle.spec_disk.specs.Images.{IsSettled}
-use Rattle.spec_disk.specs.Laws.{AreWhole}
 use Rattle.spec_disk.specs.declared.event.Event.{Event}
 use Rattle.spec_record.specs.Geometry.{block_at}
 use Rattle.spec_record.specs.declared.geometry.Geometry.{Geometry}
@@ -26,6 +25,8 @@ use Rattle.spec_core.specs.declared.reply.Reply.{Reply}
 use Rattle.spec_core.specs.declared.reply.Reply.TheVariants as replies
 use Rattle.spec_core.specs.declared.who.Who.{Who}
 use Rattle.spec_session.specs.Own.{Named, slot_holds}
+use Rattle.spec_served.specs.Adds.{AreByLine}
+use Rattle.spec_served.specs.Places.{blocks_by, publisher}
 use Rattle.bv_device.specs.Told.{Disk, disk_with, now_of}
 use Rattle.bv_device.specs.Reads.{ReadsRight as DeviceReads}
 use Rattle.bv_fetch.specs.Windows.{Holds}
@@ -35,15 +36,16 @@ use Rattle.bv_store.specs.Stored.{Grows, blocks_on}
 use Rattle.bv_session.specs.declared.serves.Answer.{Answer}
 use Rattle.bv_session.specs.declared.serves.Answer.TheVariants as answers
 use Rattle.bv_session.specs.Disk.{IsOnDisk, ReadsRight, blocks_at, record_of}
-use Rattle.bv_session.specs.Events.{IfDone, NotesAs, history_of, reply_by}
+use Rattle.bv_session.specs.Events.{IfDone, NotesAs, reply_by}
 use Rattle.spec_window.specs.Window.{window_bytes}
 use Rattle.bv_volume.specs.Events.{Does, Happens, event_of}
 use Rattle.bv_volume.specs.Fetched.{HasFetched, fetch_reply}
+use Rattle.bv_volume.specs.Located.{LiesBy}
 use Rattle.bv_volume.specs.Seen.{Seen}
 use Rattle.bv_volume.specs.declared.fetching.FetchFault.{FetchFault}
 use Rattle.bv_volume.specs.declared.fetching.FetchFault.TheVariants as fetching
 use Rattle.bv_shared.specs.Answers.{answer_reply}
-use Rattle.bv_shared.specs.Entries.{basis_of, device_events, entries_in, lies_in, places_in, told_of}
+use Rattle.bv_shared.specs.Entries.{basis_of, device_events, entries_in, told_of}
 use Rattle.bv_shared.specs.Since.{AreOfOneDisk, AreWithin, Since}
 use Rattle.bv_shared.proofs.GainLemmas.{entry, gains_entry}
 use Rattle.bv_shared.specs.ServeLaws.{history_is}
@@ -64,34 +66,34 @@ silent_told (Some d) new slot w grows = grows.1 ∙ none grows.2 where
 abbrev pub Gives : Digest → Blob → RawWindow → List (List ℕ) → Type 0
 Gives root b raw blocks = (raw.bytes.items ≡ fetched_bytes (record_of root b) blocks raw.window) × (raw.path.items ≡ fetched_path (record_of root b) blocks raw.window)
 
--- the blocks that the disk then has, where the device's events are these
-abbrev pub then_at : Disk → List Event → ℕ → List ℕ → List (List ℕ)
-then_at t events calls places = blocks_at (now_after (now_after t.base t.trace) (take calls events)) places
+-- what the disk then has at these places, where the device's events are these
+abbrev pub then_at : Blocks → List Event → ℕ → List ℕ → List (List ℕ)
+then_at base events calls places = blocks_at (now_after base (take calls events)) places
 
-gives_by : (g : Geometry) (places : List ℕ) (root : Digest) (b : Blob) (raw : RawWindow) (began told : Option Disk) (calls : ℕ) → AreOfOneDisk began told → IfSome told (λ d. length d.trace ≡ calls)
-    → IfSome told (λ d. IfSome began (λ x. IsSettled x.trace) → DeviceReads d → Holds g places b raw d)
-    → IfSome began (λ t. IsSettled t.trace → ReadsRight (take calls (device_events told)) → AreWhole (then_at t (device_events told) calls (map (block_at g) places)) → Gives root b raw (then_at t (device_events told) calls (map (block_at g) places)))
-gives_by g places root b raw None told calls disk counted sees = tt
-gives_by g places root b raw (Some x) None calls disk counted sees = absurd disk
-gives_by g places root b raw (Some x) (Some d) calls disk counted sees = λ settled right whole.
+gives_by : (g : Geometry) (places : List ℕ) (root : Digest) (b : Blob) (raw : RawWindow) (x d : Disk) (calls : ℕ) → d.base ≡ now_of x → length d.trace ≡ calls → ReadsRight (take calls d.trace) → (DeviceReads d → Holds g places b raw d)
+    → Gives root b raw (then_at (now_of x) d.trace calls (map (block_at g) places))
+gives_by g places root b raw x d calls disk counted right sees =
     let all : take calls d.trace ≡ d.trace = take_all calls d.trace (omega (arith, counted)) in
-    let now : now_after (now_after x.base x.trace) (take calls d.trace) ≡ now_of d = (λ i. now_after (sym disk i) (all i)) in
-    let blocks : then_at x d.trace calls (map (block_at g) places) ≡ blocks_on g d places = (λ i. blocks_at (now i) (map (block_at g) places)) ∙ map-map (block (now_of d)) (block_at g) places in
-    subst (Gives root b raw) (sym blocks) (sees settled (subst ReadsRight all right) root)
+    let now : now_after (now_of x) (take calls d.trace) ≡ now_of d = (λ i. now_after (sym disk i) (all i)) in
+    let blocks : then_at (now_of x) d.trace calls (map (block_at g) places) ≡ blocks_on g d places = (λ i. blocks_at (now i) (map (block_at g) places)) ∙ map-map (block (now_of d)) (block_at g) places in
+    subst (Gives root b raw) (sym blocks) (sees (subst ReadsRight all right) root)
 
--- with where the blob lies, and what the map has of it
-on_disk : (h : History) (next : ℕ) (basis_told : Option Disk) (root : Digest) (b : Blob) (raw : RawWindow) (o : Option (List ℕ)) (places : List ℕ) (g : Geometry) (events : List Event) (calls : ℕ) (h' : History) → h' ≡ h
-    → find (last_state h next).map root ≡ Some b → o ≡ Some places
-    → IfSome basis_told (λ t. IsSettled t.trace → ReadsRight (take calls events) → AreWhole (then_at t events calls (map (block_at g) places)) → Gives root b raw (then_at t events calls (map (block_at g) places)))
-    → IfSome (told_of basis_told) (λ t. IsSettled t.trace → ReadsRight (take calls events)
-    → AreWhole (blocks_at (now_after (now_after t.base t.trace) (take calls events)) (places_in g o))
-    → IsSomeAnd (find (last_state h' next).map root) (λ x. Gives root x raw (blocks_at (now_after (now_after t.base t.trace) (take calls events)) (places_in g o))))
-on_disk h next None root b raw o places g events calls h' same has lies gives = tt
-on_disk h next (Some t) root b raw o places g events calls h' same has lies gives = λ settled right whole.
-    let at : List ℕ → List (List ℕ) = λ ps. blocks_at (now_after (now_after t.base t.trace) (take calls events)) ps in
-    let there : places_in g o ≡ map (block_at g) places = ap (places_in g) lies in
-    let it : Gives root b raw (at (places_in g o)) = subst (λ ps. Gives root b raw (at ps)) (sym there) (gives settled right (subst (λ ps. AreWhole (at ps)) there whole)) in
-    subst (λ (x : Option Blob). IsSomeAnd x (λ y. Gives root y raw (at (places_in g o)))) (sym (ap (λ (x : History). find (last_state x next).map root) same ∙ has)) it
+-- where the blob lies by a history's events
+abbrev pub lies_by : Blocks → List Event → History → Digest → List ℕ
+lies_by base events h root = blocks_by base events h.events root (publisher root None h.events)
+
+on_disk : (h : History) (next : ℕ) (g : Geometry) (places : List ℕ) (root : Digest) (b : Blob) (raw : RawWindow) (began told : Option Disk) (calls : ℕ) → AreOfOneDisk began told → IfSome told (λ d. length d.trace ≡ calls)
+    → find (last_state h next).map root ≡ Some b
+    → IfSome began (λ x. IsSettled x.trace → AreByLine [] h.events → IfSome told (λ d. LiesBy g x d h root places))
+    → IfSome told (λ d. IfSome began (λ x. IsSettled x.trace) → DeviceReads d → Holds g places b raw d)
+    → IfSome (told_of began) (λ t. IsSettled t.trace → ReadsRight (take calls (device_events told)) → AreByLine [] h.events
+    → IsSomeAnd (find (last_state h next).map root) (λ y. Gives root y raw (then_at (now_after t.base t.trace) (device_events told) calls (lies_by (now_after t.base t.trace) (device_events told) h root))))
+on_disk h next g places root b raw None told calls disk counted has by sees = tt
+on_disk h next g places root b raw (Some x) None calls disk counted has by sees = absurd disk
+on_disk h next g places root b raw (Some x) (Some d) calls disk counted has by sees = λ settled right lines.
+    let there = gives_by g places root b raw x d calls disk counted right (sees settled) in
+    let here : Gives root b raw (then_at (now_of x) d.trace calls (lies_by (now_of x) d.trace h root)) = subst (λ (ps : List ℕ). Gives root b raw (then_at (now_of x) d.trace calls ps)) (by settled lines) there in
+    subst (λ (o : Option Blob). IsSomeAnd o (λ y. Gives root y raw (then_at (now_of x) d.trace calls (lies_by (now_of x) d.trace h root)))) (sym has) here
 
 -- ---- the entry of a fetch
 
@@ -140,16 +142,20 @@ module _ (o u w : Seen) (since : Since o u) (within : AreWithin u) (who : Who) (
 
   -- what the entry says of a window
   abbrev pub OnDisk : RawWindow → CoreEvent → Type 0
-  OnDisk raw e = IfSome (slot_holds slot own) (λ blob. IsOnDisk (basis_of u o.store.faults) (device_events w.store.told) (entries_in u) (lies_in u) blob e raw)
+  OnDisk raw e = IfSome (slot_holds slot own) (λ blob. IsOnDisk (basis_of u o.store.faults) (device_events w.store.told) (entries_in u) blob e raw)
 
   holds_on_disk : IfSome w.store.told (λ d. length d.trace ≡ w.store.calls) → (raw : RawWindow) (happens : Happens u w who act replies.Fetched) → HasFetched u (place_of who slot) window raw → OnDisk raw (event_of who act replies.Fetched w.store.calls)
   holds_on_disk counted raw happens fetched =
       let silent : w.store.told ≡ u.store.told = silent_told u.store.told w.store.told slot window happens.told in
       let named : slot_holds slot own ≡ Some (fetched.root, fetched.blob.size) = named_by (find (last_state u.history u.next).map fetched.root) fetched.blob (λ b. slot_holds slot own ≡ Some (fetched.root, b.size)) fetched.has (knows fetched.root fetched.holds) in
-      let gives = gives_by u.store.geometry fetched.places fetched.root fetched.blob raw u.store.began u.store.told w.store.calls since.3 (subst (λ (x : Option Disk). IfSome x (λ d. length d.trace ≡ w.store.calls)) silent counted) fetched.now in
-      subst (λ (n : Option Named). IfSome n (λ blob. IsOnDisk (basis_of u o.store.faults) (device_events w.store.told) (entries_in u) (lies_in u) blob (event_of who act replies.Fetched w.store.calls) raw)) (sym named)
-      (subst (λ (x : Option Disk). IsOnDisk (basis_of u o.store.faults) (device_events x) (entries_in u) (lies_in u) (fetched.root, fetched.blob.size) (event_of who act replies.Fetched w.store.calls) raw) (sym silent)
-      (on_disk u.history u.next u.store.began fetched.root fetched.blob raw (find u.store.placed fetched.root) fetched.places u.store.geometry (device_events u.store.told) w.store.calls (history_of (basis_of u o.store.faults) (entries_in u)) (history_is u o.store.faults) fetched.has fetched.lies gives))
+      let e = event_of who act replies.Fetched w.store.calls in
+      let blob : Named = (fetched.root, fetched.blob.size) in
+      let at = on_disk u.history u.next u.store.geometry fetched.places fetched.root fetched.blob raw u.store.began u.store.told w.store.calls since.3 (subst (λ (x : Option Disk). IfSome x (λ d. length d.trace ≡ w.store.calls)) silent counted) fetched.has fetched.by fetched.now in
+      subst (λ (n : Option Named). IfSome n (λ named. IsOnDisk (basis_of u o.store.faults) (device_events w.store.told) (entries_in u) named e raw)) (sym named)
+      (subst (λ (x : Option Disk). IsOnDisk (basis_of u o.store.faults) (device_events x) (entries_in u) blob e raw) (sym silent)
+      (subst (λ (h : History). IfSome (told_of u.store.began) (λ t. IsSettled t.trace → ReadsRight (take w.store.calls (device_events u.store.told)) → AreByLine [] h.events
+      → IsSomeAnd (find (last_state h u.next).map fetched.root) (λ y. Gives fetched.root y raw (then_at (now_after t.base t.trace) (device_events u.store.told) w.store.calls (lies_by (now_after t.base t.trace) (device_events u.store.told) h fetched.root)))))
+      (sym (history_is u o.store.faults)) at))
 
   pub fetch_ok : {E : Type 0} (result : Result (Answer RawWindow) E) (answer : Result RawWindow FetchFault) → answer_reply (λ x. replies.Fetched) result ≡ fetch_reply answer → IfOk result (λ a. IfDone a (λ x. answer ≡ Ok x))
       → Does u w who act (fetch_reply answer) → IfOk answer (HasFetched u (place_of who slot) window) → IfSome w.store.told (λ d. length d.trace ≡ w.store.calls)
@@ -167,9 +173,9 @@ module _ (o u w : Seen) (since : Since o u) (within : AreWithin u) (who : Who) (
 pub fetch_roomed : {E : Type 0} (o v u w : Seen) → u ≡ record v { spare = u.spare } → Since o v → AreWithin u → (who : Who) (slot window : ℕ) (own : List CoreEvent) → KnowsHeld u who slot own
     → (result : Result (Answer RawWindow) E) (answer : Result RawWindow FetchFault) → answer_reply (λ x. replies.Fetched) result ≡ fetch_reply answer → IfOk result (λ a. IfDone a (λ x. answer ≡ Ok x))
     → Does u w who (acts.Fetch slot window) (fetch_reply answer) → IfOk answer (HasFetched u (place_of who slot) window) → IfSome w.store.told (λ d. length d.trace ≡ w.store.calls)
-    → IfOk result (λ a. NotesAs (entries_in v) (entries_in w) who (acts.Fetch slot window) (reply_by (λ x. replies.Fetched) a) (λ e. IfDone a (λ x. IfSome (slot_holds slot own) (λ blob. IsOnDisk (basis_of v o.store.faults) (device_events w.store.told) (entries_in v) (lies_in v) blob e.event x))))
+    → IfOk result (λ a. NotesAs (entries_in v) (entries_in w) who (acts.Fetch slot window) (reply_by (λ x. replies.Fetched) a) (λ e. IfDone a (λ x. IfSome (slot_holds slot own) (λ blob. IsOnDisk (basis_of v o.store.faults) (device_events w.store.told) (entries_in v) blob e.event x))))
 fetch_roomed o v u w room since within who slot window own knows result answer reply done does fetched counted =
-    subst (λ (y : Seen). IfOk result (λ a. NotesAs (entries_in y) (entries_in w) who (acts.Fetch slot window) (reply_by (λ x. replies.Fetched) a) (λ e. IfDone a (λ x. IfSome (slot_holds slot own) (λ blob. IsOnDisk (basis_of y o.store.faults) (device_events w.store.told) (entries_in y) (lies_in y) blob e.event x))))) room
+    subst (λ (y : Seen). IfOk result (λ a. NotesAs (entries_in y) (entries_in w) who (acts.Fetch slot window) (reply_by (λ x. replies.Fetched) a) (λ e. IfDone a (λ x. IfSome (slot_holds slot own) (λ blob. IsOnDisk (basis_of y o.store.faults) (device_events w.store.told) (entries_in y) blob e.event x))))) room
     (fetch_ok o u w (since_spared o v u room since) within who slot window own knows result answer reply done does fetched counted)
 
 -- ---- a slot that holds a blob is no bad slot

@@ -1,11 +1,9 @@
 -- A volume as sessions see it: what it stands on, and its events as entries.
-use Rattle.std.specs.Prelude.{◌≡◌, ℕ, List, [], ◌∷◌, map, Option, Some, None}
+use Rattle.std.specs.Prelude.{◌≡◌, ℕ, List, [], ◌∷◌, Option, Some, None}
 use Rattle.spec_disk.specs.declared.event.Event.{Event}
-use Rattle.spec_record.specs.Geometry.{block_at}
-use Rattle.spec_record.specs.declared.geometry.Geometry.{Geometry}
 use Rattle.spec_tree.specs.declared.Digest.{Digest}
 use Rattle.spec_core.specs.History.{setting_of, opening_map, first_state}
-use Rattle.spec_core.specs.State.{State, find}
+use Rattle.spec_core.specs.State.{State}
 use Rattle.spec_core.specs.Step.{after}
 use Rattle.spec_core.specs.declared.act.Act.{Act}
 use Rattle.spec_core.specs.declared.act.Act.TheVariants as acts
@@ -75,12 +73,3 @@ entries_in v = entries_from (told_of v.store.began) (device_events v.store.told)
 abbrev pub Gains : List Entry → List Entry → Who → Act → Option Reply → Type 0
 Gains old new who act None = new ≡ old
 Gains old new who act (Some reply) = Notes old new who act reply
-
--- the device's blocks at these data blocks, where there are any
-abbrev pub places_in : Geometry → Option (List ℕ) → List ℕ
-places_in g None = []
-places_in g (Some places) = map (block_at g) places
-
--- the device's blocks of a blob of the volume
-abbrev pub lies_in : Seen → Digest → List ℕ
-lies_in v root = places_in v.store.geometry (find v.store.placed root)

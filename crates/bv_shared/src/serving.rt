@@ -44,8 +44,6 @@ impl<'t, S: Store> Serves for Shared<'t, S> {
 
     ghost fault_count = { λ v. v.volume.store.faults };
 
-    ghost lies = { λ v. E.lies_in v.volume };
-
     ghost session_is = { L.of_session };
 
     ghost tells = { λ v. L.tells v.volume v.opening.value.store.faults };
