@@ -1,11 +1,12 @@
-"""`list` of volumes with as many blobs as fit, in both versions, at two sizes that show the growth,
-beside SQLite's check and list of a table with as many rows, interleaved, best of nine.
+"""Surveys of the metadata of volumes with as many blobs as fit, in both versions, at two sizes that show
+the growth; and `list` of these volumes beside SQLite's check and list of a table with as many rows,
+interleaved, best of nine.
 
-`list` reads the metadata, surveys it whole, and prints a line for each blob. So its time is more than
-that of a survey, of which 60 ms is wanted for the largest metadata of version 1, and 150 ms for the
-largest of version 2. Each is a whole process, by the clock and by processor time, on which other work
-of the machine has no part. The volumes are sparse files: `list` reads no data block. A ratio is
-SQLite's processor time to ours.
+A survey is a call, timed in a program of its own. Wanted are 60 ms for the largest metadata of version 1,
+and 150 ms for the largest of version 2. `list` reads the metadata, surveys it, and prints a line for
+each blob. It and SQLite are whole processes, by the clock and by processor time, on which other work of
+the machine has no part. The volumes are sparse files: `list` reads no data block. A ratio is SQLite's
+processor time to ours.
 """
 import pathlib
 import random
@@ -15,7 +16,7 @@ import struct
 import sys
 import tempfile
 
-from measure import TOP, blobfs, most_memory, table, timed_both
+from measure import TOP, blobfs, most_memory, proved_program, table, timed, timed_both
 
 sys.path.insert(0, str(TOP / "scripts"))
 from volume import BLOCK, NO_NODE, info_block, regions, superblock  # noqa: E402
@@ -32,7 +33,8 @@ def roots_of(count):
 
 
 def write_image(path, version, blocks, nodes, data_blocks, roots):
-    """A volume whose every node is a blob in one extent, and whose journal is empty."""
+    """A volume whose every node is a blob in one extent, and whose journal is empty. Returns its
+    metadata blocks."""
     need = data_blocks + 1
     used = 1 + need * len(roots)
     bitmap_blocks, node_blocks = regions(blocks, nodes)
@@ -47,12 +49,12 @@ def write_image(path, version, blocks, nodes, data_blocks, roots):
         )
         for node, root in enumerate(roots)
     ]
+    head = superblock(blocks, nodes, journal, version, len(roots), used, len(roots))
+    meta = head + bytes(bits) + b"".join(rows)
     with open(path, "wb") as file:
-        file.write(superblock(blocks, nodes, journal, version, len(roots), used, len(roots)))
-        file.write(bits)
-        file.write(b"".join(rows))
-        file.write(info_block())
-        file.truncate((1 + bitmap_blocks + node_blocks + journal + blocks) * BLOCK)
+        file.write(meta + info_block())
+        file.truncate(len(meta) + (journal + blocks) * BLOCK)
+    return meta
 
 
 def write_table(path, data_blocks, roots):
@@ -64,34 +66,62 @@ def write_table(path, data_blocks, roots):
     base.close()
 
 
+def survey_seconds(program, path, blobs):
+    """The fastest survey of the metadata in a file, which has so many blobs."""
+    _, text = timed([program], path)
+    micros, found, faults = map(int, text.split())
+    if (found, faults) != (blobs, 0):
+        raise SystemExit(f"a survey found {found} blobs and {faults} faults")
+    return micros / 1e6
+
+
+def times_of(commands):
+    """The best seconds of each command by the clock and by processor time, run by turns."""
+    clock, processor, said = {}, {}, {}
+    for _ in range(RUNS):
+        for key, words in commands.items():
+            seconds, worked, said[key] = timed_both(words, "/dev/null")
+            clock[key] = min(clock.get(key, seconds), seconds)
+            processor[key] = min(processor.get(key, worked), worked)
+    if "other" in said and said["other"] != "ok\n" + said["ours"]:
+        raise SystemExit("the lists differ")
+    return clock, processor
+
+
+def row_of(folder, program, surveys, version, blocks, nodes, data_blocks):
+    """What the table says of one size."""
+    roots = roots_of(nodes)
+    meta = folder / "meta"
+    meta.write_bytes(write_image(folder / "image", version, blocks, nodes, data_blocks, roots))
+    write_table(folder / "table", data_blocks, roots)
+    commands = {"ours": [program, f"file:{folder / 'image'}", "list"]}
+    tool = shutil.which("sqlite3")
+    if tool:
+        query = "pragma integrity_check; select lower(hex(root)), size from blobs order by root"
+        commands["other"] = [tool, "-separator", " ", folder / "table", query]
+    clock, processor = times_of(commands)
+    times = [f"{1000 * best[key]:.0f}" for key in commands for best in (clock, processor)]
+    ratio = [f"{processor['other'] / processor['ours']:.2f}"] if tool else ["-", "-", "-"]
+    return [
+        str(version), str(nodes), str(blocks), f"{1000 * survey_seconds(surveys, meta, nodes):.0f}",
+        *times, *ratio, most_memory(commands["ours"], "/dev/null"),
+    ]
+
+
 def main():
     program = pathlib.Path(sys.argv[1]) if len(sys.argv) > 1 else blobfs()
-    tool = shutil.which("sqlite3")
-    query = "pragma integrity_check; select lower(hex(root)), size from blobs order by root"
     rows = []
-    for version, blocks, nodes, data_blocks in SIZES:
-        with tempfile.TemporaryDirectory() as name:
-            folder = pathlib.Path(name)
-            roots = roots_of(nodes)
-            write_image(folder / "image", version, blocks, nodes, data_blocks, roots)
-            write_table(folder / "table", data_blocks, roots)
-            found = {"ours": [program, f"file:{folder / 'image'}", "list"]}
-            if tool:
-                found["other"] = [tool, "-separator", " ", folder / "table", query]
-            clock, processor, said = {}, {}, {}
-            for _ in range(RUNS):
-                for key, words in found.items():
-                    seconds, worked, said[key] = timed_both(words, "/dev/null")
-                    clock[key] = min(clock.get(key, seconds), seconds)
-                    processor[key] = min(processor.get(key, worked), worked)
-            if tool and said["other"] != "ok\n" + said["ours"]:
-                raise SystemExit("the lists differ")
-            times = [f"{1000 * best[key]:.0f}" for key in found for best in (clock, processor)]
-            ratio = f"{processor['other'] / processor['ours']:.2f}" if tool else "-"
-            memory = most_memory(found["ours"], "/dev/null")
-            rows.append([str(version), str(nodes), str(blocks), *times, *([] if tool else ["-", "-"]), ratio, memory])
+    with tempfile.TemporaryDirectory() as kept:
+        below = ["bv_txn", "bv_layout", "bv_bytes", "spec_record"]
+        surveys = proved_program("survey", below, kept)
+        for size in SIZES:
+            with tempfile.TemporaryDirectory() as name:
+                rows.append(row_of(pathlib.Path(name), program, surveys, *size))
     print(f"milliseconds, best of {RUNS}")
-    table(["version", "blobs", "data blocks", "list", "processor", "SQLite", "processor", "ratio", "MiB"], rows)
+    table([
+        "version", "blobs", "data blocks", "survey", "list", "processor", "SQLite", "processor",
+        "ratio", "list MiB",
+    ], rows)
 
 
 main()
