@@ -1,2 +1,4 @@
 pub mod BackLemmas
+pub mod CloseLemmas
 pub mod EndsLemmas
+pub mod RunsLemmas

@@ -1,8 +1,14 @@
-//! The run of a script: its sessions over a value behind the lock, one after another.
+//! The run of a script: its sessions one after another, over a value behind the lock or over a
+//! mounted volume.
 #![tactic(auto)]
 
 mod back;
 mod each;
+mod ending;
+mod ran;
 mod run;
+mod sessions;
 
+pub use ran::Ran;
 pub use run::run_all;
+pub use sessions::run_sessions;

@@ -21,9 +21,9 @@ const SESSIONS: u32 = 16;
 
 /// Runs the sessions of these lines over this value, which has no entry yet.
 ///
-/// The answer has the value after all of them, and how each session ended, at the place of its number:
-/// it ends early where it finds no memory, and the others go on. Where there is no memory to begin
-/// with, the value comes back.
+/// The answer has the value after all of them, and how each session ended, at the place of its
+/// number: it ends early where it finds no memory, and the others go on. Where there is no memory to
+/// begin with, the value comes back.
 ///
 /// `claims` is the table of the value's basis, and `version` the version there.
 pub fn run_all<R: Wait, V: Serves, G: Gate>(

@@ -1,0 +1,43 @@
+-- What a run of a script's sessions over a mounted volume gives (this project's profile).
+use Rattle.std.specs.Prelude.{◌≡◌, Bool, true, false, List, None, length, IfSome, IsSomeAnd}
+use Rattle.spec_disk.specs.Images.{IsSettled}
+use Rattle.spec_core.specs.History.{History}
+use Rattle.spec_headline.specs.Headline.{IsUnmounted}
+use Rattle.spec_headline.specs.Run.{Ended, CutShort, run_of}
+use Rattle.spec_script.specs.declared.line.ScriptLine.{ScriptLine}
+use Rattle.spec_session.specs.declared.end.SessionEnd.{SessionEnd}
+use Rattle.bv_device.specs.Told.{now_of}
+use Rattle.bv_store.specs.Stored.{Stored}
+use Rattle.bv_volume.specs.Seen.{Seen as Volume, IsSafe}
+
+-- a volume later in its mount: the mount began with the same, and the device tells of the disk that
+-- it told of then
+pub record IsLater (first last : Volume) : Type 0 where
+  pub opening : last.history.opening ≡ first.history.opening
+  pub blocks : last.history.blocks ≡ first.history.blocks
+  pub nodes : last.history.nodes ≡ first.history.nodes
+  pub version : last.history.version ≡ first.history.version
+  pub next : last.next ≡ first.next
+  pub began : last.store.began ≡ first.store.began
+  pub disk : IfSome last.store.began (λ b.
+      IsSomeAnd last.store.told (λ d. d.base ≡ now_of b))
+
+-- A run of these lines over a volume gave this: the history, how each session ended, whether all
+-- did all their lines and the volume was unmounted behind them, and what kept the blobs.
+pub record Runs (lines : List ScriptLine) (first : Volume) (h : History) (ends : List SessionEnd)
+    (whole : Bool) (store : Stored) : Type 0 where
+  -- on any device
+  pub count : whole ≡ true → length ends ≡ 16
+  pub ended : whole ≡ true
+      → Ended (run_of lines h ends) first.next first.store.faults store.faults
+  pub cut : whole ≡ false
+      → CutShort (run_of lines h ends) first.next first.store.faults store.faults
+  -- the volume that would show this history and this store: it is the first one, later in its
+  -- mount, and the theorem of stops holds of it
+  pub last : Volume
+  pub history_is : h ≡ last.history
+  pub store_is : record store { planned = None } ≡ last.store
+  pub later : IsLater first last
+  pub safe : IsSafe last
+  -- after a reply `unmounted` the device is settled
+  pub settled : whole ≡ true → IsUnmounted h → IfSome store.told (λ d. IsSettled d.trace)
