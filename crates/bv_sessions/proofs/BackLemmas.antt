@@ -16,7 +16,8 @@ use Rattle.bv_turn.specs.Entries.{entries_of}
 use Rattle.bv_turn.specs.Tokens.{IsOf, IsIdle, session_of, list_of, KnowsEntries, KnowsBasis, HasShare, AreFresh}
 use Rattle.bv_session.specs.declared.entry.Basis.{Basis}
 use Rattle.bv_session.specs.declared.entry.Entry.{Entry}
-use Rattle.bv_session.specs.Ends.{IsReady, ComesBack, Does, Goes}
+use Rattle.bv_session.specs.declared.session.Ended.{Ended}
+use Rattle.bv_session.specs.Ends.{IsReady, ComesBack, EndOf, Does, Goes}
 use Rattle.bv_session.specs.Events.{events_in, history_of}
 use Rattle.bv_session.specs.Sessions.{own}
 use Rattle.std.specs.Prelude.{not}
@@ -38,6 +39,11 @@ module _ {A : Type 0} where
   below_length [] n x at = absurd (cc)
   below_length (y ∷ ys) zero x at = omega arith
   below_length (y ∷ ys) (suc n) x at = let r = below_length ys n x at in omega arith
+
+-- a promise or a closure that is given back speaks of the values that it was made of
+pub moved : {T : Type 0} {k : Ghosts T Entry Basis} {t t' : Turn T Entry Basis} {lines lines' : List ScriptLine} {version version' : ℕ} {s s' : Share T Entry Basis k} {e e' : Ended T Entry Basis k}
+    → t ≡ t' → lines ≡ lines' → version ≡ version' → s ≡ s' → e ≡ e' → EndOf t lines version s e → EndOf t' lines' version' s' e'
+moved {T} {k} a b c d f = subst (λ (y : Turn T Entry Basis × List ScriptLine × ℕ × Share T Entry Basis k × Ended T Entry Basis k). EndOf y.0 y.1 y.2 y.3 y.4) (λ i. (a i, b i, c i, d i, f i))
 
 module _ {T : Type 0} {k : Ghosts T Entry Basis} (t : Turn T Entry Basis) (lines : List ScriptLine) (version : ℕ) where
   pub back-length : (ss bs : List (Share T Entry Basis k)) (es : List SessionEnd) → ComeBack t lines version ss bs es → (length bs ≡ length ss) × (length es ≡ length ss)

@@ -15,18 +15,20 @@ use spec_script::ScriptLine;
 use spec_session::SessionEnd;
 use std::alloc::{AllocError, Global};
 use std::sync::Wait;
+use std::thread::Threads;
 
 /// How many sessions a script has.
 const SESSIONS: u32 = 16;
 
-/// Runs the sessions of these lines over this value, which has no entry yet.
+/// Runs the sessions of these lines over this value, which has no entry yet, each in a thread of its
+/// own.
 ///
 /// The answer has the value after all of them, and how each session ended, at the place of its
 /// number: it ends early where it finds no memory, and the others go on. Where there is no memory to
 /// begin with, the value comes back.
 ///
 /// `claims` is the table of the value's basis, and `version` the version there.
-pub fn run_all<R: Wait, V: Serves, G: Gate>(
+pub fn run_all<R: Threads + Wait + Sync, V: Serves + Send, G: Gate + Sync>(
     rt: &R,
     alloc: Global,
     value: V,

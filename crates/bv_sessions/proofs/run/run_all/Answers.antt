@@ -3,7 +3,7 @@ use Rattle.bv_sessions.proofs.BackLemmas.{back-length, back-idle, fresh_all, all
 use Rattle.bv_sessions.proofs.run.run_all.Goals as goal
 
 pub run_each-shares-requires-clause-ready : goal.run_each-shares-requires-clause-ready
-run_each-shares-requires-clause-ready g c =
+run_each-shares-requires-clause-ready g c = λ lifetimes outlive.
     fresh_all c.in_ok-turn.turn c.args.lines.now c.args.version (g.V.Keeps.basis c.args.value) c.in_ok-turn.shares.items c.in_ok-turn.ensures.shares c.args.claims.now c.requires.claims c.requires.version c.requires.known
 
 pub close-requires-clause-this : goal.close-requires-clause-this
@@ -23,10 +23,11 @@ returns-clause-basis g c =
 
 pub returns-clause-ends : goal.returns-clause-ends
 returns-clause-ends g c =
+    let laws = g.met.V.Serves g.world.𝓛 g.world.𝓜 g.world.𝓡 ((λ s x. x), (λ x. x), (λ x. x), λ x. x) in
     let ended = c.run_each-shares.result in let shares = c.in_ok-turn.shares in
     let count : length shares.items ≡ 16 = sym shares.ok.0 ∙ c.in_ok-turn.ensures.count.1 in
     let basis = same_basis c.in_ok-turn.turn c.args.lines.now c.args.version (g.V.Keeps.basis c.args.value) shares.items c.in_ok-turn.ensures.shares ended.shares.items ended.ends.items c.run_each-shares.ensures.back c.close.result (omega arith) c.close.ensures.basis in
-    all_end c.in_ok-turn.turn c.args.lines.now c.args.version (g.V.Keeps.basis c.args.value) shares.items c.in_ok-turn.ensures.shares ended.shares.items ended.ends.items c.run_each-shares.ensures.back c.close.result g.met.V.Serves.session_is (ap (λ b. b.geometry.version) basis ∙ c.requires.version) count c.close.ensures.lists
+    all_end c.in_ok-turn.turn c.args.lines.now c.args.version (g.V.Keeps.basis c.args.value) shares.items c.in_ok-turn.ensures.shares ended.shares.items ended.ends.items c.run_each-shares.ensures.back c.close.result laws.session_is (ap (λ b. b.geometry.version) basis ∙ c.requires.version) count c.close.ensures.lists
 
 pub returns-clause-count : goal.returns-clause-count
 returns-clause-count g c =
@@ -35,6 +36,7 @@ returns-clause-count g c =
 
 pub returns-clause-others : goal.returns-clause-others
 returns-clause-others g c =
+    let laws = g.met.V.Serves g.world.𝓛 g.world.𝓜 g.world.𝓡 ((λ s x. x), (λ x. x), (λ x. x), λ x. x) in
     let ended = c.run_each-shares.result in let shares = c.in_ok-turn.shares in
     let count : length shares.items ≡ 16 = sym shares.ok.0 ∙ c.in_ok-turn.ensures.count.1 in
-    no_others c.in_ok-turn.turn c.args.lines.now c.args.version (g.V.Keeps.basis c.args.value) shares.items c.in_ok-turn.ensures.shares ended.shares.items ended.ends.items c.run_each-shares.ensures.back c.close.result g.met.V.Serves.session_is count c.close.ensures.owned
+    no_others c.in_ok-turn.turn c.args.lines.now c.args.version (g.V.Keeps.basis c.args.value) shares.items c.in_ok-turn.ensures.shares ended.shares.items ended.ends.items c.run_each-shares.ensures.back c.close.result laws.session_is count c.close.ensures.owned
