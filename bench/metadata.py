@@ -1,9 +1,10 @@
 """Surveys of the metadata of volumes with as many blobs as fit, in both versions, at two sizes that show
-the growth; and `list` of these volumes beside SQLite's check and list of a table with as many rows,
+the growth, and plans of an entry; and `list` of these volumes beside SQLite's check and list of a table with as many rows,
 interleaved, best of nine.
 
 A survey is a call, timed in a program of its own. Wanted are 60 ms for the largest metadata of version 1,
-and 150 ms for the largest of version 2. `list` reads the metadata, surveys it, and prints a line for
+and 150 ms for the largest of version 2. So is the plan of an entry that purges one blob, for which a
+millisecond is wanted. `list` reads the metadata, surveys it, and prints a line for
 each blob. It and SQLite are whole processes, by the clock and by processor time, on which other work of
 the machine has no part. The volumes are sparse files: `list` reads no data block. A ratio is SQLite's
 processor time to ours.
@@ -66,13 +67,22 @@ def write_table(path, data_blocks, roots):
     base.close()
 
 
-def survey_seconds(program, path, blobs):
+def survey_micros(program, path, blobs):
     """The fastest survey of the metadata in a file, which has so many blobs."""
     _, text = timed([program], path)
     micros, found, faults = map(int, text.split())
     if (found, faults) != (blobs, 0):
         raise SystemExit(f"a survey found {found} blobs and {faults} faults")
-    return micros / 1e6
+    return micros
+
+
+def plan_micros(program, path):
+    """The fastest plan of a purge, whose entry names block 0 and a block of the bitmap and of the nodes."""
+    _, text = timed([program], path)
+    micros, blocks = map(int, text.split())
+    if blocks != 3:
+        raise SystemExit(f"an entry has {blocks} blocks")
+    return micros
 
 
 def times_of(commands):
@@ -88,7 +98,7 @@ def times_of(commands):
     return clock, processor
 
 
-def row_of(folder, program, surveys, version, blocks, nodes, data_blocks):
+def row_of(folder, program, calls, version, blocks, nodes, data_blocks):
     """What the table says of one size."""
     roots = roots_of(nodes)
     meta = folder / "meta"
@@ -103,8 +113,8 @@ def row_of(folder, program, surveys, version, blocks, nodes, data_blocks):
     times = [f"{1000 * best[key]:.0f}" for key in commands for best in (clock, processor)]
     ratio = [f"{processor['other'] / processor['ours']:.2f}"] if tool else ["-", "-", "-"]
     return [
-        str(version), str(nodes), str(blocks), f"{1000 * survey_seconds(surveys, meta, nodes):.0f}",
-        *times, *ratio, most_memory(commands["ours"], "/dev/null"),
+        str(version), str(nodes), str(blocks), f"{survey_micros(calls[0], meta, nodes) / 1000:.0f}",
+        f"{plan_micros(calls[1], meta) / 1000:.3f}", *times, *ratio, most_memory(commands["ours"], "/dev/null"),
     ]
 
 
@@ -112,14 +122,19 @@ def main():
     program = pathlib.Path(sys.argv[1]) if len(sys.argv) > 1 else blobfs()
     rows = []
     with tempfile.TemporaryDirectory() as kept:
+        kept = pathlib.Path(kept)
         below = ["bv_txn", "bv_layout", "bv_bytes", "spec_record"]
-        surveys = proved_program("survey", below, kept)
+        more = ["bv_node", "spec_meta", "spec_image"]
+        calls = [
+            proved_program("survey", below, kept / "survey"),
+            proved_program("plan", below + more, kept / "plan"),
+        ]
         for size in SIZES:
             with tempfile.TemporaryDirectory() as name:
-                rows.append(row_of(pathlib.Path(name), program, surveys, *size))
+                rows.append(row_of(pathlib.Path(name), program, calls, *size))
     print(f"milliseconds, best of {RUNS}")
     table([
-        "version", "blobs", "data blocks", "survey", "list", "processor", "SQLite", "processor",
+        "version", "blobs", "data blocks", "survey", "plan", "list", "processor", "SQLite", "processor",
         "ratio", "list MiB",
     ], rows)
 
