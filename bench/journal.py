@@ -1,13 +1,13 @@
-"""`list` and `recover` over a ring full of entries, beside SQLite's first query and checkpoint over a
-WAL of as many bytes, interleaved, best of five, at two sizes that show the growth.
+"""Scans of a ring full of entries on a device in memory, beside `crc32` over the same bytes; and `list` and
+`recover` of such a volume, beside SQLite's first query and checkpoint over a WAL of as many bytes;
+interleaved, best of five, at two sizes that show the growth.
 
 An entry has three payloads, as that of a small add: superblock, bitmap, and one of 128 blocks of the
-node map. `list` reads and checks every entry and surveys the metadata; with the time of an empty ring
-taken off it is the scan. `recover` does the same, and writes the metadata in place. Ours are whole
-processes, SQLite's are calls within one. The first table has the clock, the second processor time, on
-which other work of the machine and its disk have no part. MB/s are 10^6 bytes of the ring a second. A
-ratio is SQLite's time to ours, each per byte. zlib's CRC-32 over the ring, beside it, is about what
-checking entries costs at least; `bench/crc32.py` has ours.
+node map. A scan is a call, timed in a program of its own; 0.8 of the rate of `crc32` is wanted, since
+checksums are the work. `list` scans, and surveys the metadata; `recover` does the same, and writes the
+metadata in place. They are whole processes, SQLite's are calls within one. The first table has the
+clock, the second processor time, on which other work of the machine and its disk have no part. MB/s
+are 10^6 bytes of the ring a second. A ratio of times is SQLite's to ours, each per byte.
 """
 import pathlib
 import shutil
@@ -15,27 +15,26 @@ import sqlite3
 import sys
 import tempfile
 import time
-import zlib
 
-from measure import TOP, blobfs, most_memory, table, timed_both
+from measure import TOP, blobfs, most_memory, proved_program, table, timed, timed_both
 
 sys.path.insert(0, str(TOP / "scripts"))
 from volume import entry, info_block, metadata  # noqa: E402
 
 BLOCK = 8192
-BLOCKS, NODES = 65536, 16384
+BLOCKS, NODES = 1024, 16384
 RUNS = 5
 SIZES = [4096, 65536]
 
 
-def write_image(path, journal, is_full):
-    """An empty volume of version 1 whose ring has as many entries as fit, or none. Returns the blocks
-    before the ring, which a recovery writes, and how many entries there are."""
+def write_image(path, journal):
+    """An empty volume of version 1 whose ring has as many entries as fit. Returns the blocks before the
+    ring, which a recovery writes, and how many entries there are."""
     meta, _ = metadata(BLOCKS, NODES, journal, 1, [])
     count = len(meta) // BLOCK
     head = meta + info_block()
     blocks = [meta[at : at + BLOCK] for at in range(0, len(meta), BLOCK)]
-    entries = (journal - 1) // 5 if is_full else 0
+    entries = (journal - 1) // 5
     with open(path, "wb") as file:
         file.write(head)
         for number in range(1, entries + 1):
@@ -68,30 +67,33 @@ def write_wal(path, size):
 
 
 class Ours:
-    """A volume with a full ring, and one with an empty one."""
+    """A volume with a full ring."""
 
     def __init__(self, program, folder, journal):
-        self.program, self.image, self.empty = program, folder / "full.img", folder / "empty.img"
-        self.head, self.entries = write_image(self.image, journal, True)
-        write_image(self.empty, journal, False)
+        self.program, self.image = program, folder / "full.img"
+        self.head, self.entries = write_image(self.image, journal)
         self.size = self.entries * 5 * BLOCK
 
-    def run(self, word, image, wanted):
-        clock, processor, text = timed_both([self.program, f"file:{image}", word], "/dev/null")
+    def run(self, word, wanted):
+        clock, processor, text = timed_both([self.program, f"file:{self.image}", word], "/dev/null")
         if text != wanted:
             raise SystemExit(f"{word} printed {text[:100]!r}")
         return clock, processor
 
     def once(self):
-        """The seconds of `list`, with an empty ring too, and of `recover`; the volume is then as it was."""
-        found = {
-            "empty": self.run("list", self.empty, ""),
-            "list": self.run("list", self.image, ""),
-            "recover": self.run("recover", self.image, f"recovered {self.entries}\n"),
-        }
+        """The seconds of `list` and of `recover`; the volume is then as it was."""
+        found = {"list": self.run("list", ""), "recover": self.run("recover", f"recovered {self.entries}\n")}
         with open(self.image, "r+b") as file:
             file.write(self.head)
         return found
+
+    def rates(self, scans):
+        """MB/s of a scan in memory and of `crc32` over the same bytes, by this program."""
+        _, text = timed([scans], self.image)
+        scanned, entries, summed, _ = map(int, text.split())
+        if entries != self.entries:
+            raise SystemExit(f"a scan found {entries} entries")
+        return self.size / scanned, self.image.stat().st_size / summed
 
 
 class Sqlite:
@@ -125,50 +127,48 @@ def since(start, end):
     return end[0] - start[0], end[1] - start[1]
 
 
-def of_crc(path, size):
-    """How long zlib's CRC-32 takes over so many bytes of a file's ring."""
-    with open(path, "rb") as file:
-        data = file.read(size)
-    start = now()
-    zlib.crc32(data)
-    return since(start, now())
-
-
 def row_of(best, ours, other, way):
     """What a table says of one size: `way` is 0 for the clock and 1 for processor time."""
-    took = {key: max(seconds[way], 1e-9) for key, seconds in best.items()}
-    scan = max(took["list"] - took["empty"], 1e-9)
+    took = {key: seconds[way] for key, seconds in best.items()}
     per_byte = ours.size / other.size
     return [
         str(ours.size // BLOCK), f"{1000 * took['list']:.0f}", f"{1000 * took['recover']:.0f}",
-        f"{ours.size / scan / 1e6:.0f}", f"{ours.size / took['crc'] / 1e6:.0f}",
         f"{1000 * took['query']:.0f}", f"{1000 * took['both']:.0f}",
         f"{took['query'] * per_byte / took['list']:.2f}",
         f"{took['both'] * per_byte / took['recover']:.2f}",
     ]
 
 
+def measure_size(folder, program, scans, journal, tables):
+    """Adds what is said of one size to the tables: of scans, of the clock, of processor time."""
+    ours = Ours(program, folder, journal)
+    other = Sqlite(folder, ours.size)
+    best = {}
+    for _ in range(RUNS):
+        for key, seconds in {**ours.once(), **other.once()}.items():
+            best[key] = [min(pair) for pair in zip(best.get(key, seconds), seconds)]
+    scan, crc = ours.rates(scans)
+    memory = most_memory([program, f"file:{ours.image}", "list"], "/dev/null")
+    tables[0].append([str(ours.size // BLOCK), f"{scan:.0f}", f"{crc:.0f}", f"{scan / crc:.2f}"])
+    for way, rows in enumerate(tables[1:]):
+        rows.append([*row_of(best, ours, other, way), memory])
+
+
 def main():
     program = pathlib.Path(sys.argv[1]) if len(sys.argv) > 1 else blobfs()
-    tables = [[], []]
-    for journal in SIZES:
-        with tempfile.TemporaryDirectory() as name:
-            folder = pathlib.Path(name)
-            ours = Ours(program, folder, journal)
-            other = Sqlite(folder, ours.size)
-            best = {}
-            for _ in range(RUNS):
-                found = {**ours.once(), **other.once(), "crc": of_crc(ours.image, ours.size)}
-                for key, seconds in found.items():
-                    best[key] = [min(pair) for pair in zip(best.get(key, seconds), seconds)]
-            memory = most_memory([program, f"file:{ours.image}", "list"], "/dev/null")
-            for way, rows in enumerate(tables):
-                rows.append([*row_of(best, ours, other, way), memory])
-    for name, rows in zip(["by the clock", "by processor time"], tables):
-        print(f"entries of five blocks, {name}, best of {RUNS}")
+    tables = [[], [], []]
+    with tempfile.TemporaryDirectory() as kept:
+        scans = proved_program("scan", ["bv_replay", "bv_device", "bv_layout", "bv_bytes"], kept)
+        for journal in SIZES:
+            with tempfile.TemporaryDirectory() as name:
+                measure_size(pathlib.Path(name), program, scans, journal, tables)
+    print(f"entries of five blocks, best of {RUNS}")
+    table(["blocks", "scan MB/s", "crc32 MB/s", "scan's rate to it"], tables[0])
+    for name, rows in zip(["by the clock", "by processor time"], tables[1:]):
+        print(f"{name}, milliseconds")
         table([
-            "blocks", "list ms", "recover ms", "scan MB/s", "zlib crc32", "query ms", "and checkpoint",
-            "query to list", "both to recover", "list MiB",
+            "blocks", "list", "recover", "SQLite's query", "and checkpoint", "query to list",
+            "both to recover", "list MiB",
         ], rows)
 
 
