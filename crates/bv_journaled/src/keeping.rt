@@ -12,7 +12,7 @@ use std::alloc::{AllocError, Global};
 
 impl<D: Device> Store for JournaledStore<D> {
     ghost use Rattle.bv_journaled.specs.Standing.{stored_of, IsHeld, Both};
-    ghost use Rattle.bv_journaled.specs.StoreLaws.{leaves_both, counts_events};
+    ghost use Rattle.bv_journaled.specs.StoreLaws.{leaves_both, shows_newest, counts_events};
 
     ghost seen = { stored_of };
 
@@ -21,6 +21,8 @@ impl<D: Device> Store for JournaledStore<D> {
     ghost held = { IsHeld };
 
     ghost both_holds = { leaves_both };
+
+    ghost shown = { shows_newest };
 
     ghost counted = { counts_events };
 

@@ -31,6 +31,7 @@ use Rattle.bv_store.specs.Stored.{Stored}
 use Rattle.bv_volume.specs.Events.{event_of, noted}
 use Rattle.bv_volume.specs.Fetched.{Fetches, HasFetched, fetch_reply}
 use Rattle.bv_volume.proofs.Located.{LocatedIn, lies_by}
+use Rattle.bv_volume.specs.Seen.{HasBlobsNow}
 use Rattle.bv_volume.specs.Kept.{Kept, seen_of}
 use Rattle.bv_volume.specs.Spaced.{LiesAt, Spaced}
 use Rattle.bv_volume.specs.declared.fetching.FetchFault.{FetchFault}
@@ -157,9 +158,9 @@ for_any None P p = tt
 for_any (Some r) P p = p
 
 -- the window is that of the blob that the place holds
-pub fetched_is : (n : Noted) (next : ℕ) (t : Tables) (o : Owned) (s s' : Stored) (Both New : Map → Map → Type 0) (Held Hold : ℕ → Type 0) (place : Place) (r : Digest) (blob : Blob) (places : List ℕ) (w : ℕ) (result : Result RawWindow FetchFault) → held (last_state n.history next).slots place ≡ Some r → find (last_state n.history next).map r ≡ Some blob → find s.placed r ≡ Some places → LocatedIn n.history s
+pub fetched_is : (n : Noted) (next : ℕ) (t : Tables) (o : Owned) (s s' : Stored) (Both New : Map → Map → Type 0) (Held Hold : ℕ → Type 0) (place : Place) (r : Digest) (blob : Blob) (places : List ℕ) (w : ℕ) (result : Result RawWindow FetchFault) → held (last_state n.history next).slots place ≡ Some r → find (last_state n.history next).map r ≡ Some blob → find s.placed r ≡ Some places → LocatedIn n.history s → HasBlobsNow (seen_of n next t o s)
     → Fetches s s' Both New Held Hold places blob w result → IfOk result (HasFetched (seen_of n next t o s) place w)
-fetched_is n next t o s s' Both New Held Hold p r blob places w (Ok raw) holds has there located read = record {
+fetched_is n next t o s s' Both New Held Hold p r blob places w (Ok raw) holds has there located shown read = record {
   root = r;
   holds = holds;
   blob = blob;
@@ -167,7 +168,8 @@ fetched_is n next t o s s' Both New Held Hold p r blob places w (Ok raw) holds h
   places = places;
   lies = there;
   by = lies_by n.history s r places there located;
+  shown = shown;
   lengths = read.lengths;
   now = read.now;
 }
-fetched_is n next t o s s' Both New Held Hold p r blob places w (Err e) holds has there located read = tt
+fetched_is n next t o s s' Both New Held Hold p r blob places w (Err e) holds has there located shown read = tt

@@ -16,7 +16,7 @@ use Rattle.bv_proof.specs.declared.raw.RawWindow.{RawWindow}
 use Rattle.bv_store.specs.Stored.{Stored}
 use Rattle.spec_served.specs.Adds.{AreByLine}
 use Rattle.bv_volume.specs.Located.{LiesBy}
-use Rattle.bv_volume.specs.Seen.{Seen}
+use Rattle.bv_volume.specs.Seen.{HasBlobsNow, Seen}
 use Rattle.bv_volume.specs.declared.fetching.FetchFault.{FetchFault}
 use Rattle.bv_volume.specs.declared.fetching.FetchFault.TheVariants as fetch
 
@@ -61,5 +61,6 @@ pub record HasFetched (v : Seen) (place : Place) (w : ℕ) (raw : RawWindow) : T
   pub lies : find v.store.placed root ≡ Some places
   pub by : IfSome v.store.began (λ b. IsSettled b.trace → AreByLine [] v.history.events
       → IfSome v.store.told (λ d. LiesBy v.store.geometry b d v.history root places))
+  pub shown : HasBlobsNow v
   pub lengths : HasLengths blob.size w raw
   pub now : SeesNow v.store (Holds v.store.geometry places blob raw)

@@ -8,6 +8,7 @@ use Rattle.spec_core.specs.declared.act.Act.TheVariants.{Fetch}
 use Rattle.bv_fetch.specs.Windows.{HasRoom}
 use Rattle.bv_volume.specs.Fetched.{Fetches, fetch_reply}
 use Rattle.bv_volume.proofs.Fetches.{blob_lies, blob_need_is, blocks_within, fetch_done, fetch_spaced, fetched_is, for_any, in_tables}
+use Rattle.bv_volume.proofs.Shown.{blobs_now}
 use Rattle.bv_volume.proofs.Silent.{CallDone}
 use Rattle.bv_volume.proofs.volume.Volume.fetch_held.Goals as goal
 use Rattle.bv_volume.proofs.volume.Volume.fetch_held.Goals.{After-drop-places}
@@ -72,7 +73,8 @@ pub returns-clause-fetched : goal.returns-clause-fetched
 returns-clause-fetched g c =
     let i = c.self.inside in
     rw (← c.self.view_is) (fetched_is i.history i.first i.ledger i.space (g.S.Store.seen i.store) (g.S.Store.seen c.read_from-answer.new.store) (g.S.Store.both i.store) (g.S.Store.both c.read_from-answer.new.store) (g.S.Store.held i.store) (g.S.Store.held c.read_from-answer.new.store) (place_of c.args.who c.args.slot) c.args.root c.args.blob c.in-Ok.prepared.places.items c.args.window c.read_from-answer.result
-    (rw (← c.self.view_is) at c.requires.held) (rw (← c.self.view_is) at c.requires.blob) c.in-Ok.ensures.places c.self.invariant.2.located (read g c))
+    (rw (← c.self.view_is) at c.requires.held) (rw (← c.self.view_is) at c.requires.blob) c.in-Ok.ensures.places c.self.invariant.2.located
+    (blobs_now i.history i.first i.ledger i.space (g.S.Store.seen i.store) (g.S.Store.both i.store) c.self.invariant.0 (g.met.S.Store.shown i.store)) (read g c))
 
 pub returns-clause-crash : goal.returns-clause-crash
 returns-clause-crash g c = (done g c).safe

@@ -1,3 +1,4 @@
+use Rattle.bv_volume.proofs.Shown.{blobs_now}
 use Rattle.bv_volume.proofs.volume.Volume.history.Goals as goal
 
 pub returns-clause-calls : goal.returns-clause-calls
@@ -11,3 +12,8 @@ returns-clause-puts g c = rw (← c.self.view_is) c.self.invariant.2.puts
 
 pub returns-clause-located : goal.returns-clause-located
 returns-clause-located g c = rw (← c.self.view_is) c.self.invariant.2.located
+
+pub returns-clause-shown : goal.returns-clause-shown
+returns-clause-shown g c =
+    let i = c.self.inside in
+    rw (← c.self.view_is) (blobs_now i.history i.first i.ledger i.space (g.S.Store.seen i.store) (g.S.Store.both i.store) c.self.invariant.0 (g.met.S.Store.shown i.store))
