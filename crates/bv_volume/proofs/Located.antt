@@ -77,11 +77,11 @@ published_own w es = filter_own (λ e. same_who e.who w && was_published e.act e
 
 -- ---- who published
 
-publisher_push : (r : Digest) (last : Option Who) (es : List CoreEvent) (e : CoreEvent) → publisher r last (es ++ e ∷ []) ≡ publisher_after r (publisher r last es) e.who e.act e.reply
+pub publisher_push : (r : Digest) (last : Option Who) (es : List CoreEvent) (e : CoreEvent) → publisher r last (es ++ e ∷ []) ≡ publisher_after r (publisher r last es) e.who e.act e.reply
 publisher_push r last [] e = refl
 publisher_push r last (f ∷ es) e = publisher_push r (publisher_after r last f.who f.act f.reply) es e
 
-unpublished : (r : Digest) (last : Option Who) (who : Who) (act : Act) (q : Reply) → was_published act q ≡ false → publisher_after r last who act q ≡ last
+pub unpublished : (r : Digest) (last : Option Who) (who : Who) (act : Act) (q : Reply) → was_published act q ≡ false → publisher_after r last who act q ≡ last
 unpublished r last who (acts.Settle x) replies.Published none = absurd (cc)
 unpublished r last who act q none = refl
 

@@ -71,6 +71,16 @@ module _ (n : Noted) (next : ℕ) (t new : Tables) (o o' : Owned) (s z w : Store
       go None is = let none : false ≡ true = ap (λ (x : Option ℕ). is_some x) (sym is) ∙ old.nodes in cc
       go (Some k) is = let at : NodesAt t.setting (Some a.size) (Some old.blocks) (Some k) = rw (under, old.has, is) at (spaced.nodes.at a.root) in is ∙ ap (λ (x : ℕ). Some x) at.0
 
+  -- the blocks that were put are the blob's
+  pub whole_blob : IsPut (seen_of n next t o s) a → IfSome s.told (λ d. HasBlob a.root blob (blocks_on s.geometry d old.blocks.items))
+  whole_blob put = go s.told put.there
+    where
+      go : (d : Option Disk) → IfSome d (λ x. IfSome (find o.adds a.root) (λ v. IsBlobOf n.history.version a.root a.size (blocks_on s.geometry x v.items))) → IfSome d (λ x. HasBlob a.root blob (blocks_on s.geometry x old.blocks.items))
+      go None h = tt
+      go (Some d) h =
+          let written = rw (old.has) at h in
+          subst (λ (v : ℕ). HasBlob a.root (record { size = a.size; version = v }) (blocks_on s.geometry d old.blocks.items)) (sym (same_version n next t s Both kept)) (written_blobs_verify n.history.version a.size a.root _ written)
+
   -- what the plan asks
   pub may_lie : MayLieAt s Held a.root blob old.blocks.items
   may_lie =

@@ -26,6 +26,7 @@ use Rattle.bv_device.specs.Told.{Disk, disk_with, now_of}
 use Rattle.bv_model.specs.Noted.{Noted}
 use Rattle.bv_space.specs.Owned.{Owned}
 use Rattle.bv_ledger.specs.Answers.{device_reply}
+use Rattle.bv_ledger.specs.Tables as L
 use Rattle.bv_ledger.specs.Tables.{Tables}
 use Rattle.bv_ledger.proofs.Sums.{sum_less}
 use Rattle.bv_store.specs.Stored.{Stored, Grows}
@@ -33,12 +34,14 @@ use Rattle.bv_volume.specs.Events.{event_of, noted}
 use Rattle.bv_volume.specs.Kept.{Kept}
 use Rattle.bv_volume.specs.Sessions.{AreWrites, HasAdmitted, Ordered, Stands, Works}
 use Rattle.spec_served.specs.Adds.{puts_of}
+use Rattle.bv_volume.specs.Sound.{PublishedAreSound}
 use Rattle.bv_volume.specs.Spaced.{Spaced}
 use Rattle.bv_volume.specs.declared.tokens.Admitted.{Admitted}
 use Rattle.bv_volume.proofs.Counting.{grows_so}
 use Rattle.bv_volume.proofs.Located.{located_quiet}
 use Rattle.bv_volume.proofs.SessionCalls.{agrees, find_less, its, works}
 use Rattle.bv_volume.proofs.Sessions.{SameAt, event_last, not_put, ordered_after, works_on, writes_kept, writes_push}
+use Rattle.bv_volume.proofs.Sound.{put_map, sound_quiet}
 use Rattle.bv_volume.proofs.Syncs.{in_disk, on_disk}
 
 -- ---- blocks that aren't the one that was written
@@ -123,6 +126,10 @@ module _ (n n' : Noted) (next : ℕ) (t : Tables) (o : Owned) (s s' : Stored) (B
           spaced.once at,
         )
 
+    not_placed : (r : Digest) (places : List ℕ) → find s.placed r ≡ Some places → times at places ≡ 0
+    not_placed r places lies =
+        omega (arith, stands, sum_less (λ (v : Vec ℕ). times at v.items) o.adds a.root its_works.blocks its_works.has, sum_less (times at) s.placed r places lies, spaced.within at, spaced.once at)
+
     abbrev Apart : Disk → List Event → Type 0
     Apart d more = (b : ℕ) → b ≢ at → block (now_of (disk_with d more)) (block_at s.geometry b) ≡ block (now_of d) (block_at s.geometry b)
 
@@ -193,3 +200,11 @@ module _ (n n' : Noted) (next : ℕ) (t : Tables) (o : Owned) (s s' : Stored) (B
           let same : this ≡ b = cc in
           subst (λ (x : OwnAdd). Stands x.admitted n.history.version o.adds o.nodes s'.geometry s'.told puts x) same now)
           (λ y b other theirs. record { blocks = refl; nodes = refl; stays = λ v has. but v.items (not_theirs b.root v ((agrees n next t o s Both who.session kept old).apart who.session y this b other mine theirs) has) }))
+
+      -- a put goes to no block of a blob
+      pub sound_put : (new : Tables) (index calls : ℕ) (failed : Option ℕ) → n' ≡ noted n who (Put index) (Some (device_reply replies.Written failed)) calls → L.Does t new who (Put index) (Some (device_reply replies.Written failed)) → PublishedAreSound n.history t.map s → PublishedAreSound n'.history new.map s'
+      sound_put new index calls failed is does sound =
+          subst (λ (k : Noted). PublishedAreSound k.history new.map s') (sym is)
+          (sound_quiet n.history t.map new.map s s' (event_of who (Put index) (device_reply replies.Written failed) calls) Apart geometry apart refl
+          (λ r blob has. ap (λ (m : Map). find m r) (sym (put_map t new _ _ who index failed kept.accounts does)) ∙ has) less
+          (λ d more each r places lies. same_but s.geometry d more at places each (not_placed r places lies)) sound)

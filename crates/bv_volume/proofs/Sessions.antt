@@ -54,7 +54,7 @@ same_front : (g : Geometry) (d : Disk) (more : List Event) (bs cs : List ℕ) �
 same_front g d more [] cs same = tt
 same_front g d more (b ∷ bs) cs same = (same.0, same_front g d more bs cs same.1)
 
-same_nil : (g : Geometry) (d : Disk) (bs : List ℕ) → SameAt g d [] bs
+pub same_nil : (g : Geometry) (d : Disk) (bs : List ℕ) → SameAt g d [] bs
 same_nil g d [] = tt
 same_nil g d (b ∷ bs) = (ap (λ (p : List Event). block (now_after d.base p) (block_at g b)) (append-nil d.trace), same_nil g d bs)
 

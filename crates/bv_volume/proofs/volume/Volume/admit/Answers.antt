@@ -17,6 +17,7 @@ use Rattle.bv_volume.proofs.Admits.{enough_free}
 use Rattle.bv_volume.proofs.AdmitCalls.{admit_claims, admit_silent, answer_nodes, now_admitted, spaced_admit}
 use Rattle.bv_volume.proofs.Freed.{map_is_sole}
 use Rattle.bv_volume.proofs.Silent.{CallDone, has_room, quiet_call}
+use Rattle.bv_volume.proofs.Sound.{same_map, sound_silent}
 use Rattle.bv_volume.proofs.volume.Volume.admit.Goals as goal
 use Rattle.bv_volume.proofs.volume.Volume.admit.Goals.{After-admit_answer}
 use Rattle.bv_volume.proofs.volume.Volume.admit.Given.{Over}
@@ -72,6 +73,8 @@ invariant_of-self-2 g c =
       spaced g c,
       ordered_admit i.history i.first i.ledger i.space s (g.S.Store.both i.store) c.args.who.session c.self.invariant.0 c.self.invariant.2 c.note.new.history c.note_nodes.new.self e.new.space c.args.who c.args.begun.root c.args.begun.size c.free_nodes-free.result (length (claimed_gained c.args.claimed) + claimed_left c.args.claimed) s.calls e.result refl (rw (← c.self.view_is) at c.requires.begun)
           (rw (c.nodes_reply-reply.ensures, c.calls.ensures) at c.note.ensures) c.in-Ok-note_nodes.ensures.ok b.nodes (rw (← c.self.view_is) at c.requires.claimed).budget e.ensures.ok e.ensures.err,
+      sound_silent i.history c.note.new.history i.ledger.map e.new.ledger.map s c.args.who (Admit c.args.begun.root) (Some (A.admit_reply e.result)) s.calls (rw (c.nodes_reply-reply.ensures, c.calls.ensures) at c.note.ensures)
+          (same_map i.ledger e.new.ledger _ _ c.args.who (Admit c.args.begun.root) (Some (A.admit_reply e.result)) c.self.invariant.0.accounts e.ensures.row (admit_silent e.result)) refl c.self.invariant.3,
     )
 
 pub returns-clause-row : goal.returns-clause-row

@@ -1,4 +1,4 @@
-use Rattle.std.proofs.Common.{◌≡◌, ◌≤◌, ℕ, sym, subst, arith}
+use Rattle.std.proofs.Common.{◌≡◌, ◌≤◌, ℕ, sym, subst, arith, refl}
 use Rattle.spec_core.specs.declared.act.Act.TheVariants.{Begin}
 use Rattle.bv_ledger.specs.Answers as A
 use Rattle.spec_tree.specs.Tree.{need_of}
@@ -7,6 +7,7 @@ use Rattle.bv_volume.specs.declared.tokens.Begun.{Begun}
 use Rattle.bv_volume.proofs.SessionCalls.{ordered_begin}
 use Rattle.bv_volume.proofs.Adds.{begin_room, begin_same, begin_silent, is_begun, is_granted, no_space, same_claims, same_version, spaced_start}
 use Rattle.bv_volume.proofs.Silent.{CallDone, quiet_call}
+use Rattle.bv_volume.proofs.Sound.{never_published, same_map, sound_silent}
 use Rattle.bv_volume.proofs.volume.Volume.begin.Goals as goal
 use Rattle.bv_volume.proofs.volume.Volume.begin.Goals.{After-begun}
 use Rattle.bv_volume.proofs.volume.Volume.begin.Given.{Over}
@@ -43,6 +44,8 @@ invariant_of-self g c =
       spaced g c,
       ordered_begin i.history i.first i.ledger e.new.ledger i.space e.new.space s (g.S.Store.both i.store) c.args.who c.args.root c.args.size s.calls c.self.invariant.0 c.self.invariant.2 c.self.invariant.1.nodes (rw (← c.self.view_is) at c.requires.order)
           c.note.new.history e.result (rw (c.begin_reply-reply.ensures, c.calls.ensures) at c.note.ensures) e.ensures.ok e.ensures.err,
+      sound_silent i.history c.note.new.history i.ledger.map e.new.ledger.map s c.args.who (Begin c.args.root c.args.size) (A.begin_reply e.result) s.calls (rw (c.begin_reply-reply.ensures, c.calls.ensures) at c.note.ensures)
+          (same_map i.ledger e.new.ledger _ _ c.args.who (Begin c.args.root c.args.size) (A.begin_reply e.result) c.self.invariant.0.accounts e.ensures.row (begin_silent e.result)) (never_published (Begin c.args.root c.args.size) (A.begin_reply e.result) (λ x. refl)) c.self.invariant.3,
     )
 
 pub returns-clause-row : goal.returns-clause-row

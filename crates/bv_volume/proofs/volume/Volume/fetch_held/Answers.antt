@@ -1,5 +1,6 @@
 use Rattle.bv_store.specs.Stored.{Stored}
 use Rattle.bv_volume.specs.Sessions.{Ordered}
+use Rattle.bv_volume.specs.Sound.{PublishedAreSound}
 use Rattle.bv_volume.proofs.SessionCalls.{by_any, ordered_silent}
 use Rattle.std.proofs.Common.{refl, ◌≤◌, ℕ, sym, subst, arith, List, suc}
 use Rattle.std.specs.Prelude.{All}
@@ -10,6 +11,7 @@ use Rattle.bv_volume.specs.Fetched.{Fetches, fetch_reply}
 use Rattle.bv_volume.proofs.Fetches.{blob_lies, blob_need_is, blocks_within, fetch_done, fetch_spaced, fetched_is, for_any, in_tables}
 use Rattle.bv_volume.proofs.Shown.{blobs_now}
 use Rattle.bv_volume.proofs.Silent.{CallDone}
+use Rattle.bv_volume.proofs.Sound.{never_published, sound_silent}
 use Rattle.bv_volume.proofs.volume.Volume.fetch_held.Goals as goal
 use Rattle.bv_volume.proofs.volume.Volume.fetch_held.Goals.{After-drop-places}
 use Rattle.bv_volume.proofs.volume.Volume.fetch_held.Given.{Over}
@@ -64,6 +66,9 @@ invariant_of-self g c =
       subst (λ (x : Stored). Ordered c.note.new.history.history i.space x) (sym (read g c).rest)
           (ordered_silent i.history c.note.new.history i.space (g.S.Store.seen i.store) c.args.who (Fetch c.args.slot c.args.window) (fetch_reply c.read_from-answer.result) (g.S.Store.seen c.read_from-answer.new.store).calls (rw (c.fetch_reply-reply.ensures, c.calls.ensures) at c.note.ensures)
           (by_any (Fetch c.args.slot c.args.window) (fetch_reply c.read_from-answer.result) (λ x. record { order = λ add. tt; add = λ add. refl; puts = λ puts calls. refl; unput = λ who calls w. w.0; unpublished = refl })) c.self.invariant.2),
+      subst (λ (x : Stored). PublishedAreSound c.note.new.history.history i.ledger.map x) (sym (read g c).rest)
+          (sound_silent i.history c.note.new.history i.ledger.map i.ledger.map (g.S.Store.seen i.store) c.args.who (Fetch c.args.slot c.args.window) (fetch_reply c.read_from-answer.result) (g.S.Store.seen c.read_from-answer.new.store).calls (rw (c.fetch_reply-reply.ensures, c.calls.ensures) at c.note.ensures) refl
+          (never_published (Fetch c.args.slot c.args.window) (fetch_reply c.read_from-answer.result) (λ x. refl)) c.self.invariant.3),
     )
 
 pub returns-clause-row : goal.returns-clause-row

@@ -7,6 +7,7 @@ use Rattle.bv_volume.proofs.Fetches.{empty_row}
 use Rattle.bv_volume.proofs.Silent.{CallDone, silent_call}
 use Rattle.bv_volume.proofs.SessionCalls.{by_any, ordered_silent}
 use Rattle.bv_volume.proofs.Still.{spaced_silent}
+use Rattle.bv_volume.proofs.Sound.{sound_silent}
 use Rattle.bv_volume.proofs.volume.Volume.fetch_nothing.Goals as goal
 use Rattle.bv_volume.proofs.volume.Volume.fetch_nothing.Goals.{After-note}
 use Rattle.bv_volume.proofs.volume.Volume.fetch_nothing.Given.{Over}
@@ -24,6 +25,7 @@ invariant_of-self g c =
       spaced_silent i.ledger i.ledger i.space (g.S.Store.seen i.store) (g.S.Store.held i.store) _ _ c.args.who (Fetch c.args.slot c.args.window) (Some BadSlot) c.self.invariant.0.accounts (empty_row i.ledger c.args.who c.args.slot c.args.window (ap (λ (x : State). held x.slots (place_of c.args.who c.args.slot)) (sym c.self.invariant.0.state) ∙ (rw (← c.self.view_is) at c.requires.empty))) (refl, refl) tt c.self.invariant.1,
       ordered_silent i.history c.note.new.history i.space (g.S.Store.seen i.store) c.args.who (Fetch c.args.slot c.args.window) (Some BadSlot) (g.S.Store.seen i.store).calls (rw (c.calls.ensures) at c.note.ensures)
           (by_any (Fetch c.args.slot c.args.window) (Some BadSlot) (λ x. record { order = λ add. tt; add = λ add. refl; puts = λ puts calls. refl; unput = λ who calls w. w.0; unpublished = refl })) c.self.invariant.2,
+      sound_silent i.history c.note.new.history i.ledger.map i.ledger.map (g.S.Store.seen i.store) c.args.who (Fetch c.args.slot c.args.window) (Some BadSlot) (g.S.Store.seen i.store).calls (rw (c.calls.ensures) at c.note.ensures) refl refl c.self.invariant.3,
     )
 
 pub returns-clause-row : goal.returns-clause-row

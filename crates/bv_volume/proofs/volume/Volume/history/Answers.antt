@@ -1,3 +1,7 @@
+use Rattle.std.proofs.Common.{ap, sym, subst}
+use Rattle.spec_core.specs.State.{State}
+use Rattle.spec_rest.specs.Rest.{Map}
+use Rattle.bv_volume.specs.Sound.{PublishedAreSound}
 use Rattle.bv_volume.proofs.Shown.{blobs_now}
 use Rattle.bv_volume.proofs.volume.Volume.history.Goals as goal
 
@@ -17,3 +21,8 @@ pub returns-clause-shown : goal.returns-clause-shown
 returns-clause-shown g c =
     let i = c.self.inside in
     rw (← c.self.view_is) (blobs_now i.history i.first i.ledger i.space (g.S.Store.seen i.store) (g.S.Store.both i.store) c.self.invariant.0 (g.met.S.Store.shown i.store))
+
+pub returns-clause-sound : goal.returns-clause-sound
+returns-clause-sound g c =
+    let i = c.self.inside in
+    rw (← c.self.view_is) (subst (λ (m : Map). PublishedAreSound i.history.history m (g.S.Store.seen i.store)) (sym (ap (λ (x : State). x.map) c.self.invariant.0.state)) c.self.invariant.3)

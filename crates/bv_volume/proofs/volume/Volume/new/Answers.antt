@@ -2,6 +2,7 @@ use Rattle.std.proofs.Common.{refl, arith}
 use Rattle.bv_volume.proofs.SessionCalls.{ordered_fresh}
 use Rattle.bv_volume.proofs.Freed.{spaced_fresh}
 use Rattle.bv_volume.proofs.Openings.{first, fresh_told}
+use Rattle.bv_volume.proofs.Sound.{sound_fresh}
 use Rattle.bv_volume.proofs.volume.Volume.new.Goals as goal
 
 pub invariant_of-result : goal.invariant_of-result
@@ -20,4 +21,5 @@ invariant_of-result g c =
       }),
       rw (c.new-ledger.ensures) (spaced_fresh h _ _ _ _ c.setting.ensures refl refl c.requires.space),
       ordered_fresh h c.args.space s c.requires.fresh c.geometry-counts.ensures.whole c.requires.located,
+      sound_fresh h _ s c.requires.fresh,
     )

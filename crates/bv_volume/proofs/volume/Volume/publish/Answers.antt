@@ -16,15 +16,18 @@ use Rattle.bv_volume.specs.Events.{Does}
 use Rattle.bv_volume.specs.Kept.{Kept, seen_of}
 use Rattle.bv_volume.specs.Publishing.{Planned}
 use Rattle.bv_volume.specs.Seen.{Seen}
+use Rattle.bv_volume.specs.Sound.{PublishedAreSound}
 use Rattle.bv_volume.specs.Spaced.{Handed, Spaced}
+use Rattle.bv_volume.proofs.Adds.{tabled_add}
 use Rattle.bv_volume.specs.declared.tokens.Admitted.{Admitted}
 use Rattle.bv_volume.specs.declared.volume.Volume.TheInside.{Inside}
 use Rattle.bv_volume.proofs.SessionCalls.{admitted_is, handed_adds, handed_claims, handed_nodes, ordered_ends, put_is, put_wrote}
-use Rattle.bv_volume.proofs.Freed.{are_taken, queue_lies, spaced_planned}
-use Rattle.bv_volume.proofs.Publishes.{can_write, entry, handed_spare, is_there, may, may_lie, planned, publish_call, publish_placed, publish_spaced, spaced_spare, taken_free}
+use Rattle.bv_volume.proofs.Freed.{are_taken, map_is_sole, queue_lies, spaced_planned}
+use Rattle.bv_volume.proofs.Publishes.{can_write, entry, handed_spare, is_there, may, may_lie, planned, publish_call, publish_placed, publish_spaced, spaced_spare, taken_free, whole_blob}
 use Rattle.bv_volume.proofs.Located.{located_publish}
 use Rattle.bv_volume.proofs.Silent.{CallDone}
 use Rattle.bv_volume.proofs.Ties.{kept_planned}
+use Rattle.bv_volume.proofs.Sound.{sound_publish}
 use Rattle.bv_volume.proofs.volume.Volume.publish.Goals as goal
 use Rattle.bv_volume.proofs.volume.Volume.publish.Goals.{After-drop-purged}
 use Rattle.bv_volume.proofs.volume.Volume.publish.Given.{Over}
@@ -75,6 +78,7 @@ invariant_of-self g c =
           (subst (λ (o : Owned). Spaced i.ledger o z (g.S.Store.held c.prepare_entry.new.store)) (sym c.in-Err.ensures.space)
           (spaced_spare i.ledger i.space c.prepare_entry.new.space.spare z (g.S.Store.held c.prepare_entry.new.store) (spaced_planned i.ledger i.space s z (g.S.Store.held i.store) (g.S.Store.held c.prepare_entry.new.store) x e.1.1 c.in-Err.ensures.held c.self.invariant.1))),
       subst (λ (x : Owned). Ordered i.history.history x z) (sym c.in-Err.ensures.space) (subst (λ (y : Stored). Ordered i.history.history i.space y) (sym e.1.1) c.self.invariant.2),
+      subst (λ (t : Tables). PublishedAreSound i.history.history t.map z) (sym e.0) (subst (λ (y : Stored). PublishedAreSound i.history.history i.ledger.map y) (sym e.1.1) c.self.invariant.3),
     )
 
 -- what the memory was taken for
@@ -167,6 +171,7 @@ invariant_of-self-2 g c =
     let p = plan_of g i a k z c.setting.result c.setting.ensures c.in-Ok.ensures.planned in
     let is = ap (λ (x : Stored). x.planned) p.is in
     let H = g.S.Store.held i.store in
+    let its = may i.history i.first i.ledger i.ledger i.space i.space s s s B B B H H H c.args.who c.self.invariant.0 c.self.invariant.1 a k.old k.going k.number in
     let enters = rw is at e.ensures.enters in (
       (done g c).kept,
       spaced g c,
@@ -181,6 +186,13 @@ invariant_of-self-2 g c =
           (handed_adds c.prepare_entry.new.space f.new.space a.root _ e.result f.ensures.done f.ensures.kept ∙ ap (λ (x : Owned). without x.adds a.root) c.in-Ok.ensures.space)
           (handed_nodes c.prepare_entry.new.space f.new.space a.root _ e.result f.ensures.done f.ensures.kept ∙ ap (λ (x : Owned). without x.nodes a.root) c.in-Ok.ensures.space)
           (subst (λ (x : Stored). Grows x.told w.told (λ d more. SameData x.geometry d more)) p.is e.ensures.same),
+      sound_publish i.history c.note.new.history i.ledger c.settled.new.self s w _ _ c.args.who a.root a.size k.old.blocks.items e.result w.calls (rw (c.device_reply-reply.ensures, c.calls.ensures) at c.note.ensures) (enters.moves.geometry ∙ ap (λ (x : Stored). x.geometry) p.is)
+          (subst (λ (x : Stored). Grows x.told w.told (λ d more. SameData x.geometry d more)) p.is e.ensures.same) c.self.invariant.0.accounts k.going
+          (map_is_sole i.history i.first i.ledger i.ledger i.space i.space s s B H H c.args.who c.self.invariant.0 c.self.invariant.1 k.going) (c.self.invariant.1.exactly k.going).sole
+          (tabled_add i.history i.first i.ledger s B c.self.invariant.0 a.root a.size k.old.under_way) (c.settled.ensures i.ledger its c.in-Ok.ensures.ledger)
+          (publish_placed i.history i.first i.ledger i.ledger i.space i.space s z w B (g.S.Store.both c.prepare_entry.new.store) B H (g.S.Store.held c.prepare_entry.new.store) H c.args.who c.self.invariant.0 c.self.invariant.1 a k.old k.going k.number p c.in-Ok.ensures.both c.in-Ok.ensures.held e.result (rw is at e.ensures.placed))
+          (λ f failed. (e.ensures.kept f failed).0 ∙ ap (λ (x : Stored). x.placed) p.is)
+          (whole_blob i.history i.first i.ledger i.ledger i.space i.space s s s B B B H H H c.args.who c.self.invariant.0 c.self.invariant.1 a k.old k.going k.number (put_is i.history i.first i.ledger i.space s B c.args.who.session c.self.invariant.0 c.self.invariant.2 a (rw (← c.self.view_is) at c.requires.add) (rw (← c.self.view_is) at c.requires.put))) c.self.invariant.3,
     )
 
 pub returns-clause-row : goal.returns-clause-row

@@ -7,6 +7,7 @@ use Rattle.bv_volume.proofs.Puts.{is_admitted, put_stopped}
 use Rattle.bv_volume.proofs.Silent.{CallDone, silent_call}
 use Rattle.bv_volume.proofs.SessionCalls.{admitted_is, ordered_silent}
 use Rattle.bv_volume.proofs.Still.{spaced_silent}
+use Rattle.bv_volume.proofs.Sound.{sound_silent}
 use Rattle.bv_volume.proofs.volume.Volume.put.Goals as goal
 use Rattle.bv_volume.proofs.volume.Volume.put.Goals.{After-note}
 use Rattle.bv_volume.proofs.volume.Volume.put.Given.{Over}
@@ -24,6 +25,7 @@ invariant_of-self g c =
       spaced_silent i.ledger i.ledger i.space (g.S.Store.seen i.store) (g.S.Store.held i.store) _ _ c.args.who (Put c.args.add.now.put) (Some (Stopped c.in-Some.fault)) c.self.invariant.0.accounts (put_stopped i.ledger c.args.who c.args.add.now.put c.in-Some.fault (sym c.in-Some.ensures)) (refl, refl) tt c.self.invariant.1,
       ordered_silent i.history c.note.new.history i.space (g.S.Store.seen i.store) c.args.who (Put c.args.add.now.put) (Some (Stopped c.in-Some.fault)) (g.S.Store.seen i.store).calls (rw (c.calls.ensures) at c.note.ensures)
           (record { order = λ add. tt; add = λ add. refl; puts = λ puts calls. refl; unput = λ who calls w. cc; unpublished = refl }) c.self.invariant.2,
+      sound_silent i.history c.note.new.history i.ledger.map i.ledger.map (g.S.Store.seen i.store) c.args.who (Put c.args.add.now.put) (Some (Stopped c.in-Some.fault)) (g.S.Store.seen i.store).calls (rw (c.calls.ensures) at c.note.ensures) refl refl c.self.invariant.3,
     )
 
 pub returns-in-Some-clause-row : goal.returns-in-Some-clause-row

@@ -10,7 +10,7 @@ use Rattle.spec_disk.specs.Disk.{block}
 use Rattle.bv_device.specs.Told.{disk_with, now_of}
 use Rattle.bv_volume.specs.Sessions.{HasAdmitted}
 use Rattle.bv_volume.proofs.SessionCalls.{admitted_is, works}
-use Rattle.bv_volume.proofs.SessionPuts.{ordered_put}
+use Rattle.bv_volume.proofs.SessionPuts.{ordered_put, sound_put}
 use Rattle.bv_volume.proofs.Adds.{same_version, tabled_add}
 use Rattle.bv_volume.proofs.Calls.{put_call}
 use Rattle.spec_core.specs.State.{State, find}
@@ -92,6 +92,8 @@ invariant_of-self g c =
       spaced g c,
       ordered_put i.history c.note.new.history i.first i.ledger i.space s w B (g.S.Store.held i.store) c.args.who a c.self.invariant.0 c.self.invariant.1 c.self.invariant.2 mine e.ensures.puts.moves.geometry e.ensures.puts.moves.began e.ensures.placed next apart
           a.put w.calls e.result c.args.block.now (rw (c.device_reply-reply.ensures, c.calls.ensures) at c.note.ensures) wrote lies.1 (g.met.S.Store.counted e.new.store),
+      sound_put i.history c.note.new.history i.first i.ledger i.space s w B (g.S.Store.held i.store) c.args.who a c.self.invariant.0 c.self.invariant.1 c.self.invariant.2 mine e.ensures.puts.moves.geometry e.ensures.puts.moves.began e.ensures.placed next apart
+          c.put.new.self a.put w.calls e.result (rw (c.device_reply-reply.ensures, c.calls.ensures) at c.note.ensures) c.put.ensures c.self.invariant.3,
     )
 
 pub returns-clause-row : goal.returns-clause-row

@@ -9,6 +9,7 @@ use Rattle.bv_volume.proofs.SessionCalls.{admitted_is, ordered_ended}
 use Rattle.bv_volume.proofs.Adds.{Ends, add_is_part, adds_are_sole, adds_less, end_room, length_less, same_version, spaced_ends, tabled_add}
 use Rattle.bv_volume.proofs.Silent.{CallDone, quiet_call}
 use Rattle.bv_volume.proofs.Still.{still}
+use Rattle.bv_volume.proofs.Sound.{same_map, sound_silent}
 use Rattle.bv_volume.proofs.volume.Volume.retire.Goals as goal
 use Rattle.bv_volume.proofs.volume.Volume.retire.Goals.{After-note}
 use Rattle.bv_volume.proofs.volume.Volume.retire.Given.{Over}
@@ -61,6 +62,8 @@ invariant_of-self g c =
       (done g c).kept,
       spaced g c,
       ordered_ended i.history i.first i.ledger i.space s (g.S.Store.both i.store) c.args.who.session c.self.invariant.0 c.self.invariant.2 c.note.new.history c.retire.new.self c.args.who (Retire c.args.add.root) (Retired) s.calls (record { root = c.args.add.root; size = c.args.add.size; admitted = true; puts = c.args.add.put }) refl (rw (← c.self.view_is) at c.requires) (rw (c.calls.ensures) at c.note.ensures) refl (λ w. w.0) refl refl c.retire.ensures.adds c.retire.ensures.nodes,
+      sound_silent i.history c.note.new.history i.ledger.map c.retire-2.new.self.map s c.args.who (Retire c.args.add.root) (Some (Retired)) s.calls (rw (c.calls.ensures) at c.note.ensures)
+          (same_map i.ledger c.retire-2.new.self _ _ c.args.who (Retire c.args.add.root) (Some (Retired)) c.self.invariant.0.accounts c.retire-2.ensures (refl, refl)) refl c.self.invariant.3,
     )
 
 pub returns-clause-row : goal.returns-clause-row

@@ -12,6 +12,7 @@ use Rattle.bv_volume.proofs.SessionCalls.{begun_is, ordered_ended}
 use Rattle.bv_volume.proofs.Adds.{Ends, adds_are_sole, adds_less, end_room, length_less, same_version, spaced_ends, tabled_add}
 use Rattle.bv_volume.proofs.Silent.{CallDone, quiet_call}
 use Rattle.bv_volume.proofs.Still.{still}
+use Rattle.bv_volume.proofs.Sound.{same_map, sound_silent}
 use Rattle.bv_volume.proofs.volume.Volume.retire_begun.Goals as goal
 use Rattle.bv_volume.proofs.volume.Volume.retire_begun.Goals.{After-note}
 use Rattle.bv_volume.proofs.volume.Volume.retire_begun.Given.{Over}
@@ -63,6 +64,8 @@ invariant_of-self g c =
       (done g c).kept,
       spaced g c,
       ordered_ended i.history i.first i.ledger i.space s (g.S.Store.both i.store) c.args.who.session c.self.invariant.0 c.self.invariant.2 c.note.new.history c.give_back.new.self c.args.who (Retire c.args.begun.root) (Retired) s.calls (new_add c.args.begun.root c.args.begun.size) refl (rw (← c.self.view_is) at c.requires.begun) (rw (c.calls.ensures) at c.note.ensures) refl (λ w. w.0) refl refl c.give_back.ensures.adds c.give_back.ensures.nodes,
+      sound_silent i.history c.note.new.history i.ledger.map c.retire.new.self.map s c.args.who (Retire c.args.begun.root) (Some (Retired)) s.calls (rw (c.calls.ensures) at c.note.ensures)
+          (same_map i.ledger c.retire.new.self _ _ c.args.who (Retire c.args.begun.root) (Some (Retired)) c.self.invariant.0.accounts c.retire.ensures (refl, refl)) refl c.self.invariant.3,
     )
 
 pub returns-clause-row : goal.returns-clause-row

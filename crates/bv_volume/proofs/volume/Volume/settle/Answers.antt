@@ -11,6 +11,7 @@ use Rattle.bv_volume.proofs.Quiet.{silent_quiet}
 use Rattle.bv_volume.proofs.Located.{refusal_unpublished}
 use Rattle.bv_volume.proofs.Silent.{CallDone, quiet_call, refusal_silent}
 use Rattle.bv_volume.proofs.Still.{still}
+use Rattle.bv_volume.proofs.Sound.{same_map, sound_silent}
 use Rattle.bv_volume.proofs.volume.Volume.settle.Goals as goal
 use Rattle.bv_volume.proofs.volume.Volume.settle.Goals.{After-settle_refusal}
 use Rattle.bv_volume.proofs.volume.Volume.settle.Given.{Over}
@@ -57,6 +58,8 @@ invariant_of-self g c =
       (done g c).kept,
       spaced g c,
       ordered_ended i.history i.first i.ledger i.space s (g.S.Store.both i.store) c.args.who.session c.self.invariant.0 c.self.invariant.2 c.note.new.history c.retire.new.self c.args.who (Settle c.args.add.root) (refusal_reply c.in-Some.refusal) s.calls (record { root = c.args.add.root; size = c.args.add.size; admitted = true; puts = c.args.add.put }) refl (rw (← c.self.view_is) at c.requires.add) (rw (c.refusal_reply-reply.ensures, c.calls.ensures) at c.note.ensures) refl (λ w. w.0) (refusal_unpublished c.args.add.root c.in-Some.refusal) refl c.retire.ensures.adds c.retire.ensures.nodes,
+      sound_silent i.history c.note.new.history i.ledger.map c.settle_refused.new.self.map s c.args.who (Settle c.args.add.root) (Some (refusal_reply c.in-Some.refusal)) s.calls (rw (c.refusal_reply-reply.ensures, c.calls.ensures) at c.note.ensures)
+          (same_map i.ledger c.settle_refused.new.self _ _ c.args.who (Settle c.args.add.root) (Some (refusal_reply c.in-Some.refusal)) c.self.invariant.0.accounts c.in-Some.ensures.refused (refusal_silent c.in-Some.refusal)) (refusal_unpublished c.args.add.root c.in-Some.refusal) c.self.invariant.3,
     )
 
 pub returns-in-Some-clause-row : goal.returns-in-Some-clause-row

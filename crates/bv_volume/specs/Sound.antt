@@ -1,0 +1,18 @@
+-- Which blobs are sound on the disk.
+use Rattle.std.specs.Prelude.{◌≡◌, ℕ, List, None, Some, IfSome}
+use Rattle.spec_tree.specs.declared.Digest.{Digest}
+use Rattle.spec_tree.specs.declared.blob.Blob.{Blob}
+use Rattle.spec_core.specs.History.{History}
+use Rattle.spec_core.specs.State.{find}
+use Rattle.spec_core.specs.declared.who.Who.{Who}
+use Rattle.spec_rest.specs.Rest.{Map}
+use Rattle.spec_served.specs.Places.{publisher}
+use Rattle.bv_store.specs.Stored.{Stored, HasBlob, blocks_on}
+
+-- each blob of the map that was published since the mount has its blocks where it lies, and each of
+-- its windows verifies
+abbrev pub PublishedAreSound : History → Map → Stored → Type 0
+PublishedAreSound h map s = IfSome s.told (λ d.
+    (r : Digest) (blob : Blob) (places : List ℕ) (w : Who) → publisher r None h.events ≡ Some w
+    → find map r ≡ Some blob → find s.placed r ≡ Some places
+    → HasBlob r blob (blocks_on s.geometry d places))
