@@ -45,7 +45,7 @@ use Rattle.bv_volume.proofs.Syncs.{in_disk}
 same_self : (w : Who) → same_who w w ≡ true
 same_self w = rw (eq-eqb w.session w.session refl, eq-eqb w.line w.line refl) refl
 
-both_true : (a b : Bool) → (a && b) ≡ true → (a ≡ true) × (b ≡ true)
+pub both_true : (a b : Bool) → (a && b) ≡ true → (a ≡ true) × (b ≡ true)
 both_true true b is = (refl, is)
 both_true false b is = absurd (cc)
 
@@ -118,11 +118,11 @@ no_publisher r es who w none is = go (same_who who w) refl
 
 -- ---- the blocks that puts wrote
 
-written_is : (act : Act) (q : Reply) (who : Who) (calls : ℕ) → was_written act q ≡ true → IsWritten (record { who = who; act = act; reply = q; calls = calls })
+pub written_is : (act : Act) (q : Reply) (who : Who) (calls : ℕ) → was_written act q ≡ true → IsWritten (record { who = who; act = act; reply = q; calls = calls })
 written_is (acts.Put index) replies.Written who calls is = (tt, refl)
 written_is act q who calls is = absurd (cc)
 
-write_more : (trace more : List Event) (n : ℕ) (o : Option Event) → event_at trace n ≡ o → IsSomeAnd o IsOkWrite → event_at (trace ++ more) n ≡ event_at trace n
+pub write_more : (trace more : List Event) (n : ℕ) (o : Option Event) → event_at trace n ≡ o → IsSomeAnd o IsOkWrite → event_at (trace ++ more) n ≡ event_at trace n
 write_more trace more n None is w = absurd w
 write_more trace more n (Some x) is w = event_more trace more n x is ∙ sym is
 
@@ -172,18 +172,18 @@ blocks_kept base trace more es e r (Some w) puts apart = put_blocks_push (trace 
 
 -- ---- events that lines made
 
-and_false : (x b : Bool) → b ≡ false → (x && b) ≡ false
+pub and_false : (x b : Bool) → b ≡ false → (x && b) ≡ false
 and_false true b is = is
 and_false false b is = refl
 
-by_line_last : (before es : List CoreEvent) (e : CoreEvent) → AreByLine before (es ++ e ∷ []) → AreByLine before es × IsByLine (before ++ es) e.who e.act e.reply
+pub by_line_last : (before es : List CoreEvent) (e : CoreEvent) → AreByLine before (es ++ e ∷ []) → AreByLine before es × IsByLine (before ++ es) e.who e.act e.reply
 by_line_last before [] e all = (tt, subst (λ (xs : List CoreEvent). IsByLine xs e.who e.act e.reply) (sym (append-nil before)) all.0)
 by_line_last before (f ∷ es) e all =
     let rest = by_line_last (before ++ f ∷ []) es e all.1 in
     ((all.0, rest.0), subst (λ (xs : List CoreEvent). IsByLine xs e.who e.act e.reply) (append_assoc before (f ∷ []) es) rest.1)
 
 -- a put is by a line that isn't the publisher of any root
-apart_of : (before : List CoreEvent) (who : Who) (act : Act) (q : Reply) → IsByLine before who act q → (r : Digest) (w : Who) → publisher r None before ≡ Some w → (same_who who w && was_written act q) ≡ false
+pub apart_of : (before : List CoreEvent) (who : Who) (act : Act) (q : Reply) → IsByLine before who act q → (r : Digest) (w : Who) → publisher r None before ≡ Some w → (same_who who w && was_written act q) ≡ false
 apart_of before who (acts.Put index) replies.Written line r w is = ap (λ (b : Bool). b && true) (no_publisher r before who w (sym (published_own who before) ∙ line) is)
 apart_of before who act q line r w is = and_false (same_who who w) false refl
 
@@ -234,7 +234,7 @@ module _ (h : History) (s s' : Stored) (e : CoreEvent) (P : Disk → List Event 
 -- ---- what calls make of it
 
 -- where nothing is told there is nothing to say
-told_all : (Q : Disk → Type 0) (o : Option Disk) → ((d : Disk) → Q d) → IfSome o Q
+pub told_all : (Q : Disk → Type 0) (o : Option Disk) → ((d : Disk) → Q d) → IfSome o Q
 told_all Q None all = tt
 told_all Q (Some d) all = all d
 

@@ -54,6 +54,7 @@ use Rattle.bv_volume.proofs.Adds.{tabled_add, unset}
 use Rattle.bv_volume.proofs.Admits.{less_none}
 use Rattle.bv_volume.proofs.Counting.{grows_so}
 use Rattle.bv_volume.proofs.Joins.{grows_join}
+use Rattle.bv_volume.proofs.Contents.{KeepsIn, keeps_quiet, keeps_silent}
 use Rattle.bv_volume.proofs.Located.{LocatedIn, located_quiet}
 use Rattle.bv_volume.proofs.Sessions.{SameAt, grows_by_none, keeps_unwritten, not_put, ordered_after, ordered_idle, same_all, writes_bytes}
 
@@ -68,13 +69,14 @@ whole_room g None whole = tt
 whole_room g (Some d) whole = λ b low. omega (arith, in_range (now_of d) (block_at g b) (whole b low), length-now_after d.base d.trace)
 
 -- no event was made
-pub ordered_fresh : (h : History) (o : Owned) (s : Stored) → h.events ≡ [] → IfSome s.told (HasWholeBlocks s.geometry) → LocatedIn h s → Ordered h o s
-ordered_fresh h o s none whole located = record {
+pub ordered_fresh : (h : History) (o : Owned) (s : Stored) → h.events ≡ [] → IfSome s.told (HasWholeBlocks s.geometry) → LocatedIn h s → KeepsIn h s → Ordered h o s
+ordered_fresh h o s none whole located contents = record {
   order = rw none tt;
   each = λ x a is. let never : None ≡ Some a = sym (ap (λ (es : List CoreEvent). add_of (events_of x es)) none) ∙ is in absurd (cc);
   room = whole_room s.geometry s.told whole;
   puts = no_puts s.told;
   located = located;
+  contents = contents;
 }
   where
     no_puts : (o : Option Disk) → IfSome o (λ d. PutsAreWrites d.trace h.events)
@@ -95,7 +97,7 @@ ordered_silent n n' o s who act None calls is none old = subst (λ (m : Noted). 
 ordered_silent n n' o s who act (Some q) calls is none old =
     subst (λ (m : Noted). Ordered m.history o s) (sym is)
     (ordered_idle n.history o o s s (event_of who act q calls) old refl (λ d more. Unit {0}) (grows_by_none s.told)
-    (none.order (own_add n.history who.session)) (located_quiet n.history s s (event_of who act q calls) (λ d more. Unit {0}) refl refl (grows_by_none s.told) old.puts none.unpublished (λ r places there. there) old.located) (none.unput who calls) (none.add (own_add n.history who.session)) (none.puts _ calls) (λ r. keeps_unwritten o o s s.faults r refl refl))
+    (none.order (own_add n.history who.session)) (located_quiet n.history s s (event_of who act q calls) (λ d more. Unit {0}) refl refl (grows_by_none s.told) old.puts none.unpublished (λ r places there. there) old.located) (keeps_silent n.history s (event_of who act q calls) old.puts none.unpublished old.contents) (none.unput who calls) (none.add (own_add n.history who.session)) (none.puts _ calls) (λ r. keeps_unwritten o o s s.faults r refl refl))
 
 -- whatever the reply is
 pub by_any : (act : Act) (q : Option Reply) → ((x : Reply) → TakesNone act x) → IfSome q (TakesNone act)
@@ -172,7 +174,7 @@ all_data g o p bs grown = grows_so o p _ _ (λ d more same. same_all g d more bs
 pub ordered_sync : (n n' : Noted) (o o' : Owned) (s s' : Stored) (who : Who) (q : Reply) (calls : ℕ) → n' ≡ noted n who Sync (Some q) calls → s'.geometry ≡ s.geometry → s'.began ≡ s.began → ((r : Digest) (places : List ℕ) → find s'.placed r ≡ Some places → find s.placed r ≡ Some places) → o'.adds ≡ o.adds → o'.nodes ≡ o.nodes → Grows s.told s'.told (λ d more. SameData s.geometry d more) → Ordered n.history o s → Ordered n'.history o' s'
 ordered_sync n n' o o' s s' who q calls is geometry began less adds nodes stays old =
     subst (λ (m : Noted). Ordered m.history o' s') (sym is)
-    (ordered_idle n.history o o' s s' (event_of who Sync q calls) old geometry (λ d more. SameData s.geometry d more) stays tt (located_quiet n.history s s' (event_of who Sync q calls) (λ d more. SameData s.geometry d more) geometry began stays old.puts refl less old.located) (λ w. w.0) refl refl
+    (ordered_idle n.history o o' s s' (event_of who Sync q calls) old geometry (λ d more. SameData s.geometry d more) stays tt (located_quiet n.history s s' (event_of who Sync q calls) (λ d more. SameData s.geometry d more) geometry began stays old.puts refl less old.located) (keeps_quiet n.history s s' (event_of who Sync q calls) (λ d more. SameData s.geometry d more) geometry stays old.puts refl less (λ d more same r places there. same_all s.geometry d more places same) old.contents) (λ w. w.0) refl refl
     (λ r. record {
       blocks = ap (λ (es : List (Digest × Vec ℕ)). find es r) adds;
       nodes = ap (λ (es : List (Digest × ℕ)). find es r) nodes;
@@ -242,13 +244,13 @@ module _ (n : Noted) (next : ℕ) (t : Tables) (o : Owned) (s : Stored) (Both : 
           (writes_bytes s.geometry d (puts_of (events_of x n.history.events)) w.done wrote ∙ ap (λ (bs : List ℕ). blocks_on s.geometry d bs) (sym all)) there
 
   -- an add that ends
-  pub ordered_ends : (n' : Noted) (o' : Owned) (s' : Stored) (who : Who) (act : Act) (q : Reply) (calls : ℕ) (a : OwnAdd) → who.session ≡ x → own_add n.history x ≡ Some a → n' ≡ noted n who act (Some q) calls → s'.geometry ≡ s.geometry → IsInOrder (Some a) act q → LocatedIn (with_event n.history (event_of who act q calls)) s' → ¬ IsWritten (event_of who act q calls) → add_after (Some a) act q ≡ None → o'.adds ≡ without o.adds a.root → o'.nodes ≡ without o.nodes a.root
+  pub ordered_ends : (n' : Noted) (o' : Owned) (s' : Stored) (who : Who) (act : Act) (q : Reply) (calls : ℕ) (a : OwnAdd) → who.session ≡ x → own_add n.history x ≡ Some a → n' ≡ noted n who act (Some q) calls → s'.geometry ≡ s.geometry → IsInOrder (Some a) act q → LocatedIn (with_event n.history (event_of who act q calls)) s' → KeepsIn (with_event n.history (event_of who act q calls)) s' → ¬ IsWritten (event_of who act q calls) → add_after (Some a) act q ≡ None → o'.adds ≡ without o.adds a.root → o'.nodes ≡ without o.nodes a.root
       → Grows s.told s'.told (λ d more. SameData s.geometry d more) → Ordered n'.history o' s'
-  ordered_ends n' o' s' who act q calls a me is noted_is geometry order located none gone adds nodes stays =
+  ordered_ends n' o' s' who act q calls a me is noted_is geometry order located contents none gone adds nodes stays =
       let mine : own_add n.history who.session ≡ Some a = ap (λ (y : ℕ). own_add n.history y) me ∙ is in
       subst (λ (m : Noted). Ordered m.history o' s') (sym noted_is)
       (ordered_after n.history o o' s s' (event_of who act q calls) old geometry (λ d more. SameData s.geometry d more) stays
-      (subst (λ (add : Option OwnAdd). IsInOrder add act q) (sym mine) order) located (not_put s'.told (event_of who act q calls) none)
+      (subst (λ (add : Option OwnAdd). IsInOrder add act q) (sym mine) order) located contents (not_put s'.told (event_of who act q calls) none)
       (λ b now. let never : Some b ≡ None = sym now ∙ ap (λ (add : Option OwnAdd). add_after add act q) mine ∙ gone in absurd (cc))
       (λ y b other its.
       let apart : ¬ (a.root ≡ b.root) = agrees.apart who.session y a b other mine its in
@@ -262,7 +264,7 @@ module _ (n : Noted) (next : ℕ) (t : Tables) (o : Owned) (s : Stored) (Both : 
   pub ordered_ended : (n' : Noted) (o' : Owned) (who : Who) (act : Act) (q : Reply) (calls : ℕ) (a : OwnAdd) → who.session ≡ x → own_add n.history x ≡ Some a → n' ≡ noted n who act (Some q) calls → IsInOrder (Some a) act q → ¬ IsWritten (event_of who act q calls) → was_published act q ≡ false → add_after (Some a) act q ≡ None → o'.adds ≡ without o.adds a.root → o'.nodes ≡ without o.nodes a.root → Ordered n'.history o' s
   ordered_ended n' o' who act q calls a me is noted_is order none unpublished gone adds nodes =
       ordered_ends n' o' s who act q calls a me is noted_is refl order
-      (located_quiet n.history s s (event_of who act q calls) (λ d more. Unit {0}) refl refl (grows_by_none s.told) old.puts unpublished (λ r places there. there) old.located) none gone adds nodes (same_data s.geometry s.told)
+      (located_quiet n.history s s (event_of who act q calls) (λ d more. Unit {0}) refl refl (grows_by_none s.told) old.puts unpublished (λ r places there. there) old.located) (keeps_silent n.history s (event_of who act q calls) old.puts unpublished old.contents) none gone adds nodes (same_data s.geometry s.told)
 
   -- an add that was admitted, or that has no nodes
   pub ordered_admit : (n' : Noted) (mid o' : Owned) (who : Who) (r : Digest) (size free count calls : ℕ) (res : Result (Unit {0}) NoNodes) → who.session ≡ x → own_add n.history x ≡ Some (new_add r size) → n' ≡ noted n who (Admit r) (Some (admit_reply res)) calls → mid ≡ record o { nodes = insert_entry digest_cmp o.nodes r 0 } → find o.nodes r ≡ None → count ≡ need_of n.history.version size
@@ -290,7 +292,7 @@ module _ (n : Noted) (next : ℕ) (t : Tables) (o : Owned) (s : Stored) (Both : 
       subst (λ (y : Noted). Ordered y.history o' s) (sym noted_is)
       (ordered_after n.history o o' s s (event_of who (Admit r) replies.Admitted calls) old refl (λ d more. Unit {0}) (grows_by_none s.told)
       (subst (λ (add : Option OwnAdd). IsInOrder add (Admit r) replies.Admitted) (sym mine) refl)
-      (located_quiet n.history s s (event_of who (Admit r) replies.Admitted calls) (λ d more. Unit {0}) refl refl (grows_by_none s.told) old.puts refl (λ y places there. there) old.located) (not_put s.told (event_of who (Admit r) replies.Admitted calls) (λ w. w.0))
+      (located_quiet n.history s s (event_of who (Admit r) replies.Admitted calls) (λ d more. Unit {0}) refl refl (grows_by_none s.told) old.puts refl (λ y places there. there) old.located) (keeps_silent n.history s (event_of who (Admit r) replies.Admitted calls) old.puts refl old.contents) (not_put s.told (event_of who (Admit r) replies.Admitted calls) (λ w. w.0))
       (λ b now.
       let both : Some (admitted_add (new_add r size)) ≡ Some b = sym (ap (λ (add : Option OwnAdd). add_after add (Admit r) replies.Admitted) mine) ∙ now in
       let same : admitted_add (new_add r size) ≡ b = cc in
@@ -341,7 +343,7 @@ module _ (n : Noted) (next : ℕ) (t new : Tables) (o o' : Owned) (s : Stored) (
       } in
       ordered_after n.history o o' s s (event_of who (Begin r size) replies.Granted calls) old refl (λ d more. Unit {0}) (grows_by_none s.told)
       (none_yet b.tables.fresh (own_add n.history who.session) refl may)
-      (located_quiet n.history s s (event_of who (Begin r size) replies.Granted calls) (λ d more. Unit {0}) refl refl (grows_by_none s.told) old.puts refl (λ y places there. there) old.located) (not_put s.told (event_of who (Begin r size) replies.Granted calls) (λ w. w.0))
+      (located_quiet n.history s s (event_of who (Begin r size) replies.Granted calls) (λ d more. Unit {0}) refl refl (grows_by_none s.told) old.puts refl (λ y places there. there) old.located) (keeps_silent n.history s (event_of who (Begin r size) replies.Granted calls) old.puts refl old.contents) (not_put s.told (event_of who (Begin r size) replies.Granted calls) (λ w. w.0))
       (λ a now. let same : new_add r size ≡ a = cc in subst (λ (y : OwnAdd). Stands y.admitted n.history.version o'.adds o'.nodes s.geometry s.told (puts_of (events_of who.session n.history.events)) y) same waits)
       (λ y a other its.
       keeps_unwritten o o' s s.faults a.root

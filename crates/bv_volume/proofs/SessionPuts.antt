@@ -38,6 +38,7 @@ use Rattle.bv_volume.specs.Sound.{PublishedAreSound}
 use Rattle.bv_volume.specs.Spaced.{Spaced}
 use Rattle.bv_volume.specs.declared.tokens.Admitted.{Admitted}
 use Rattle.bv_volume.proofs.Counting.{grows_so}
+use Rattle.bv_volume.proofs.Contents.{keeps_quiet}
 use Rattle.bv_volume.proofs.Located.{located_quiet}
 use Rattle.bv_volume.proofs.SessionCalls.{agrees, find_less, its, works}
 use Rattle.bv_volume.proofs.Sessions.{SameAt, event_last, not_put, ordered_after, works_on, writes_kept, writes_push}
@@ -133,6 +134,21 @@ module _ (n n' : Noted) (next : ℕ) (t : Tables) (o : Owned) (s s' : Stored) (B
     abbrev Apart : Disk → List Event → Type 0
     Apart d more = (b : ℕ) → b ≢ at → block (now_of (disk_with d more)) (block_at s.geometry b) ≡ block (now_of d) (block_at s.geometry b)
 
+    -- no blob that is placed has the block
+    unplaced : (r : Digest) (places : List ℕ) → find s.placed r ≡ Some places → times at places ≡ 0
+    unplaced r places has =
+        omega (
+          arith,
+          stands,
+          sum_less (λ (v : Vec ℕ). times at v.items) o.adds a.root its_works.blocks its_works.has,
+          sum_less (times at) s.placed r places has,
+          spaced.within at,
+          spaced.once at,
+        )
+
+    still : (d : Disk) (more : List Event) → Apart d more → (r : Digest) (places : List ℕ) → find s.placed r ≡ Some places → SameAt s.geometry d more places
+    still d more each r places has = same_but s.geometry d more at places each (unplaced r places has)
+
     module _ (apart : Grows s.told s'.told Apart) where
       but : (bs : List ℕ) → times at bs ≡ 0 → Grows s.told s'.told (λ d more. SameAt s.geometry d more bs)
       but bs none = grows_so s.told s'.told _ _ (λ d more each. same_but s.geometry d more at bs each none) apart
@@ -185,7 +201,7 @@ module _ (n n' : Noted) (next : ℕ) (t : Tables) (o : Owned) (s s' : Stored) (B
             wrote = wrote_on bytes calls s.told s'.told (wrote refl) its_works.wrote old.room lies counted;
           } in
           subst (λ (m : Noted). Ordered m.history o s') (sym is)
-          (ordered_after n.history o o s s' (event_of who (Put index) replies.Written calls) old geometry Apart apart tt (located_quiet n.history s s' (event_of who (Put index) replies.Written calls) Apart geometry began apart old.puts refl less old.located) (written_put index bytes calls s.told s'.told (wrote refl) counted)
+          (ordered_after n.history o o s s' (event_of who (Put index) replies.Written calls) old geometry Apart apart tt (located_quiet n.history s s' (event_of who (Put index) replies.Written calls) Apart geometry began apart old.puts refl less old.located) (keeps_quiet n.history s s' (event_of who (Put index) replies.Written calls) Apart geometry apart old.puts refl less still old.contents) (written_put index bytes calls s.told s'.told (wrote refl) counted)
           (λ b after.
           let both : Some (put_add this) ≡ Some b = sym (ap (λ (add : Option OwnAdd). add_after add (Put index) replies.Written) mine) ∙ after in
           let same : put_add this ≡ b = cc in
@@ -194,7 +210,7 @@ module _ (n n' : Noted) (next : ℕ) (t : Tables) (o : Owned) (s s' : Stored) (B
       ordered_put index calls (Some f) bytes is wrote lies counted =
           let now : Works n.history.version o.adds o.nodes s'.geometry s'.told puts this = works_on n.history.version o o s s' puts this geometry refl refl its_works (but its_works.done unput) in
           subst (λ (m : Noted). Ordered m.history o s') (sym is)
-          (ordered_after n.history o o s s' (event_of who (Put index) (replies.DeviceFault f) calls) old geometry Apart apart tt (located_quiet n.history s s' (event_of who (Put index) (replies.DeviceFault f) calls) Apart geometry began apart old.puts refl less old.located) (not_put s'.told (event_of who (Put index) (replies.DeviceFault f) calls) (λ w. cc))
+          (ordered_after n.history o o s s' (event_of who (Put index) (replies.DeviceFault f) calls) old geometry Apart apart tt (located_quiet n.history s s' (event_of who (Put index) (replies.DeviceFault f) calls) Apart geometry began apart old.puts refl less old.located) (keeps_quiet n.history s s' (event_of who (Put index) (replies.DeviceFault f) calls) Apart geometry apart old.puts refl less still old.contents) (not_put s'.told (event_of who (Put index) (replies.DeviceFault f) calls) (λ w. cc))
           (λ b after.
           let both : Some this ≡ Some b = sym mine ∙ after in
           let same : this ≡ b = cc in

@@ -22,6 +22,7 @@ use Rattle.bv_space.specs.Owned.{Owned}
 use Rattle.bv_store.specs.Stored.{Stored, Grows}
 use Rattle.bv_volume.proofs.Counting.{grows_so}
 use Rattle.bv_volume.proofs.Syncs.{in_disk, on_disk}
+use Rattle.bv_volume.specs.Contents.{KeepsContents}
 use Rattle.bv_volume.specs.Located.{Located}
 use Rattle.bv_volume.specs.Sessions.{AreWrites, Ordered, PutsAreWrites, Stands, Works, bytes_of, own_add}
 use Rattle.spec_served.specs.Adds.{puts_after, puts_from, puts_of}
@@ -217,19 +218,20 @@ module _ (h : History) (o o' : Owned) (s s' : Stored) (e : CoreEvent) (old : Ord
       subst (λ (es : List CoreEvent). Stands a.admitted h.version o'.adds o'.nodes s'.geometry s'.told (puts_of es) a) (sym same)
       (kept_stands h.version o o' s s' (puts_of (events_of x h.events)) a a.admitted geometry (others x a (eqb-false session x other) was) (old.each x a was))
 
-  pub ordered_after : IsInOrder mine e.act e.reply → Located (with_event h e) s'.geometry s'.began s'.told s'.placed → IfSome s'.told (λ d. IsWritten e → IsSomeAnd (event_at d.trace e.calls) IsOkWrite) → OwnStands → ((x : ℕ) (a : OwnAdd) → ¬ (session ≡ x) → own_add h x ≡ Some a → Keeps o o' s s' a.root) → Ordered (with_event h e) o' s'
-  ordered_after order located put own others = record {
+  pub ordered_after : IsInOrder mine e.act e.reply → Located (with_event h e) s'.geometry s'.began s'.told s'.placed → KeepsContents (with_event h e) s'.geometry s'.told s'.placed → IfSome s'.told (λ d. IsWritten e → IsSomeAnd (event_at d.trace e.calls) IsOkWrite) → OwnStands → ((x : ℕ) (a : OwnAdd) → ¬ (session ≡ x) → own_add h x ≡ Some a → Keeps o o' s s' a.root) → Ordered (with_event h e) o' s'
+  ordered_after order located contents put own others = record {
     order = in_order_more [] h.events e old.order order;
     each = λ x a is. by_session own others x a (session == x) refl is;
     room = room_kept s.geometry s'.geometry P s.told s'.told geometry grows old.room;
     puts = told_puts P s.told s'.told h.events e grows old.puts put;
     located = located;
+    contents = contents;
   }
 
   -- an event that leaves the session's add as it is too
-  pub ordered_idle : IsInOrder mine e.act e.reply → Located (with_event h e) s'.geometry s'.began s'.told s'.placed → ¬ IsWritten e → add_after mine e.act e.reply ≡ mine → puts_after puts e.act e.reply e.calls ≡ puts → ((r : Digest) → Keeps o o' s s' r) → Ordered (with_event h e) o' s'
-  ordered_idle order located none same_add same_puts keeps =
-      ordered_after order located (not_put s'.told e none)
+  pub ordered_idle : IsInOrder mine e.act e.reply → Located (with_event h e) s'.geometry s'.began s'.told s'.placed → KeepsContents (with_event h e) s'.geometry s'.told s'.placed → ¬ IsWritten e → add_after mine e.act e.reply ≡ mine → puts_after puts e.act e.reply e.calls ≡ puts → ((r : Digest) → Keeps o o' s s' r) → Ordered (with_event h e) o' s'
+  ordered_idle order located contents none same_add same_puts keeps =
+      ordered_after order located contents (not_put s'.told e none)
       (λ a is. let was : mine ≡ Some a = sym same_add ∙ is in
       subst (λ (cs : List ℕ). Stands a.admitted h.version o'.adds o'.nodes s'.geometry s'.told cs a) (sym same_puts)
       (kept_stands h.version o o' s s' puts a a.admitted geometry (keeps a.root) (old.each session a was)))

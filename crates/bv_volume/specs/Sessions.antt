@@ -20,6 +20,8 @@ use Rattle.bv_device.specs.Told.{Disk, now_of}
 use Rattle.bv_space.specs.Owned.{Owned}
 use Rattle.bv_store.specs.Stored.{Stored}
 use Rattle.bv_writer.specs.Blocks.{IsBlobOf}
+pub use Rattle.bv_volume.specs.Contents.{bytes_of}
+use Rattle.bv_volume.specs.Contents.{KeepsContents}
 use Rattle.bv_volume.specs.Located.{Located}
 use Rattle.bv_volume.specs.Seen.{Seen}
 use Rattle.bv_volume.specs.declared.tokens.Admitted.{Admitted}
@@ -28,11 +30,6 @@ use Rattle.bv_volume.specs.declared.tokens.Begun.{Begun}
 -- the add that a session has under way
 abbrev pub own_add : History → ℕ → Option OwnAdd
 own_add h session = add_of (events_of session h.events)
-
--- the bytes that an event of the device wrote
-abbrev pub bytes_of : Option Event → List ℕ
-bytes_of (Some (device.Write at bytes ok)) = bytes
-bytes_of _ = []
 
 -- the blocks that the add of a session with these events has written, by the device's events
 abbrev pub blocks_written : List Event → List CoreEvent → List (List ℕ)
@@ -116,6 +113,7 @@ pub record AllStand (h : History) (adds : List (Digest × Vec ℕ)) (nodes : Lis
   pub room : IfSome told (λ d. (b : ℕ) → b < g.blocks → block_at g b < length d.base)
   pub puts : IfSome told (λ d. PutsAreWrites d.trace h.events)
   pub located : Located h g began told placed
+  pub contents : KeepsContents h g told placed
 
 -- the same of the parts of a volume
 abbrev pub Ordered : History → Owned → Stored → Type 0

@@ -3,7 +3,7 @@ use Rattle.spec_image.specs.Chain.{BlobRecord}
 use Rattle.bv_claims.specs.Tokens.{block_count}
 use Rattle.bv_model.specs.Noted.{Noted}
 use Rattle.bv_mounted.specs.Mounts.{blocks_of_all, records_in}
-use Rattle.bv_mounted.proofs.LiesLemmas.{told_located}
+use Rattle.bv_mounted.proofs.LiesLemmas.{told_contents, told_located}
 use Rattle.bv_mounted.proofs.OpenLemmas.{blobs_within, blobs_once, opening_same, opening_fits, opening_fresh}
 use Rattle.bv_mounted.proofs.opening.volume_of.Goals as goal
 
@@ -37,3 +37,7 @@ new-requires-clause-space g c =
 pub new-requires-clause-located : goal.new-requires-clause-located
 new-requires-clause-located g c =
     told_located c.args.inspected c.args.opened (g.D.Device.seen c.args.dev) c.args.taken.ring c.store_of-store.result c.first_history-history.result.history c.store_of-store.ensures.value (ap (λ (n : Noted). n.history) c.first_history-history.ensures) c.requires.told
+
+pub new-requires-clause-contents : goal.new-requires-clause-contents
+new-requires-clause-contents g c =
+    told_contents c.args.inspected c.args.opened (g.D.Device.seen c.args.dev) c.args.taken.ring c.store_of-store.result c.first_history-history.result.history c.store_of-store.ensures.value (ap (λ (n : Noted). n.history) c.first_history-history.ensures) c.requires.told

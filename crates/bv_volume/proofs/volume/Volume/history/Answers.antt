@@ -26,3 +26,6 @@ pub returns-clause-sound : goal.returns-clause-sound
 returns-clause-sound g c =
     let i = c.self.inside in
     rw (← c.self.view_is) (subst (λ (m : Map). PublishedAreSound i.history.history m (g.S.Store.seen i.store)) (sym (ap (λ (x : State). x.map) c.self.invariant.0.state)) c.self.invariant.3)
+
+pub returns-clause-contents : goal.returns-clause-contents
+returns-clause-contents g c = rw (← c.self.view_is) c.self.invariant.2.contents

@@ -20,6 +20,6 @@ invariant_of-result g c =
         safe = λ opened. fresh_told (g.S.Store.both c.args.store) s.told h c.args.first c.requires.fresh (c.requires.safe opened);
       }),
       rw (c.new-ledger.ensures) (spaced_fresh h _ _ _ _ c.setting.ensures refl refl c.requires.space),
-      ordered_fresh h c.args.space s c.requires.fresh c.geometry-counts.ensures.whole c.requires.located,
+      ordered_fresh h c.args.space s c.requires.fresh c.geometry-counts.ensures.whole c.requires.located c.requires.contents,
       sound_fresh h _ s c.requires.fresh,
     )

@@ -24,6 +24,7 @@ use Rattle.bv_volume.specs.declared.volume.Volume.TheInside.{Inside}
 use Rattle.bv_volume.proofs.SessionCalls.{admitted_is, handed_adds, handed_claims, handed_nodes, ordered_ends, put_is, put_wrote}
 use Rattle.bv_volume.proofs.Freed.{are_taken, map_is_sole, queue_lies, spaced_planned}
 use Rattle.bv_volume.proofs.Publishes.{can_write, entry, handed_spare, is_there, may, may_lie, planned, publish_call, publish_placed, publish_spaced, spaced_spare, taken_free, whole_blob}
+use Rattle.bv_volume.proofs.Contents.{keeps_publish}
 use Rattle.bv_volume.proofs.Located.{located_publish}
 use Rattle.bv_volume.proofs.Silent.{CallDone}
 use Rattle.bv_volume.proofs.Ties.{kept_planned}
@@ -182,6 +183,11 @@ invariant_of-self-2 g c =
           (publish_placed i.history i.first i.ledger i.ledger i.space i.space s z w B (g.S.Store.both c.prepare_entry.new.store) B H (g.S.Store.held c.prepare_entry.new.store) H c.args.who c.self.invariant.0 c.self.invariant.1 a k.old k.going k.number p c.in-Ok.ensures.both c.in-Ok.ensures.held e.result (rw is at e.ensures.placed))
           (λ f failed. (e.ensures.kept f failed).0 ∙ ap (λ (x : Stored). x.placed) p.is)
           (put_wrote i.history i.first i.ledger i.space s B c.args.who.session c.self.invariant.0 c.self.invariant.2 a (rw (← c.self.view_is) at c.requires.add) (rw (← c.self.view_is) at c.requires.put).all k.old.blocks k.old.has) c.self.invariant.2.located)
+          (keeps_publish i.history.history s w c.args.who a.root w.calls e.result k.old.blocks.items i.ledger.queue (enters.moves.geometry ∙ ap (λ (x : Stored). x.geometry) p.is)
+          (subst (λ (x : Stored). Grows x.told w.told (λ d more. SameData x.geometry d more)) p.is e.ensures.same) c.self.invariant.2.puts (c.self.invariant.1.exactly k.going).sole
+          (publish_placed i.history i.first i.ledger i.ledger i.space i.space s z w B (g.S.Store.both c.prepare_entry.new.store) B H (g.S.Store.held c.prepare_entry.new.store) H c.args.who c.self.invariant.0 c.self.invariant.1 a k.old k.going k.number p c.in-Ok.ensures.both c.in-Ok.ensures.held e.result (rw is at e.ensures.placed))
+          (λ f failed. (e.ensures.kept f failed).0 ∙ ap (λ (x : Stored). x.placed) p.is)
+          (put_wrote i.history i.first i.ledger i.space s B c.args.who.session c.self.invariant.0 c.self.invariant.2 a (rw (← c.self.view_is) at c.requires.add) (rw (← c.self.view_is) at c.requires.put).all k.old.blocks k.old.has) c.self.invariant.2.contents)
           (λ w. w.0) refl
           (handed_adds c.prepare_entry.new.space f.new.space a.root _ e.result f.ensures.done f.ensures.kept ∙ ap (λ (x : Owned). without x.adds a.root) c.in-Ok.ensures.space)
           (handed_nodes c.prepare_entry.new.space f.new.space a.root _ e.result f.ensures.done f.ensures.kept ∙ ap (λ (x : Owned). without x.nodes a.root) c.in-Ok.ensures.space)
