@@ -154,7 +154,7 @@ find_less es r x other = lookup-remove_other digest_total es r x (unlike r x oth
 
 -- ---- what the disk has
 
-same_data : (g : Geometry) (o : Option Disk) → Grows o o (λ d more. SameData g d more)
+pub same_data : (g : Geometry) (o : Option Disk) → Grows o o (λ d more. SameData g d more)
 same_data g None = refl
 same_data g (Some d) = ([], ap (λ (p : List Event). Some (record { base = d.base; trace = p })) (sym (append-nil d.trace)), λ b. ap (λ (p : List Event). block (now_after d.base p) (block_at g b)) (append-nil d.trace))
 

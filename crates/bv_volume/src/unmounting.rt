@@ -1,16 +1,18 @@
 //! The event call of the unmount.
 
-ghost use Rattle.std.specs.Prelude.{◌≡◌, ◌≤◌, ◌<◌, ◌^◌, ◌+◌, ℕ, [], IfSome, OnOk, None, Some, Contains};
+ghost use Rattle.std.specs.Prelude.{◌≡◌, ◌≤◌, ◌<◌, ◌^◌, ◌+◌, ◌⊎◌, ℕ, [], List, IfSome, OnOk, None, Some, Contains};
 ghost use Rattle.spec_disk.specs.Images.{IsSettled};
 ghost use Rattle.spec_core.specs.History.{Legal, last_state};
+ghost use Rattle.spec_core.specs.State.{find};
+ghost use Rattle.spec_tree.specs.declared.Digest.{Digest as Root};
 ghost use Rattle.bv_ledger.specs.Entries.{let_go_of_all};
 ghost use Rattle.bv_ledger.specs.Tables as L;
 ghost use Rattle.bv_ledger.specs.Tables.{Tables};
-ghost use Rattle.bv_store.specs.Stored.{CanWrite, Entry, IsThere, entry_changes, taken_by};
+ghost use Rattle.bv_store.specs.Stored.{CanWrite, Entry, Grows, IsThere, SameData, entry_changes, placed_after, placed_without, taken_by};
 ghost use Rattle.bv_volume.specs.Answers.{unmount_reply as reply_of};
 ghost use Rattle.bv_volume.specs.Ended.{Unmounts, device_answer, refusal_answer};
 ghost use Rattle.bv_volume.specs.Events.{Does};
-ghost use Rattle.bv_volume.specs.Seen.{Seen, IsSafe};
+ghost use Rattle.bv_volume.specs.Seen.{HasBlobsNow, IsSafe, Seen};
 ghost use Rattle.bv_volume.specs.Wrote.{Ends, Lasts};
 
 use crate::device::{commit_and_sync, sync_store};
@@ -58,6 +60,9 @@ fn unmount_refusal(refusal: Refusal) -> Result<(), UnmountFault>
 fn checkpoint_store<S: Store>(store: &mut S) -> Option<u64>
     ensures ends { Ends (S.seen store.old) (S.seen store.new) (S.both store.old) (S.both store.new)
         result }
+    ensures same { Grows (S.seen store.old).told (S.seen store.new).told
+        (λ d more. SameData (S.seen store.old).geometry d more) }
+    ensures placed { (S.seen store.new).placed ≡ (S.seen store.old).placed }
     ensures settled { result ≡ None → IfSome (S.seen store.new).told (λ d. IsSettled d.trace) }
 {
     match store.checkpoint() {
@@ -70,6 +75,9 @@ fn checkpoint_store<S: Store>(store: &mut S) -> Option<u64>
 fn end_without_purges<S: Store>(store: &mut S) -> Option<u64>
     ensures lasts { Lasts (S.seen store.old) (S.seen store.new) (S.both store.old) (S.both store.new)
         (λ m. []) result }
+    ensures same { Grows (S.seen store.old).told (S.seen store.new).told
+        (λ d more. SameData (S.seen store.old).geometry d more) }
+    ensures placed { (S.seen store.new).placed ≡ (S.seen store.old).placed }
     ensures number { (S.seen store.new).number ≡ (S.seen store.old).number }
     ensures settled { result ≡ None → IfSome (S.seen store.new).told (λ d. IsSettled d.trace) }
 {
@@ -89,6 +97,11 @@ fn end_with_purges<S: Store>(store: &mut S) -> Option<u64>
     ensures lasts { IfSome (S.seen store.old).planned (λ e.
         Lasts (S.seen store.old) (S.seen store.new) (S.both store.old) (S.both store.new)
         (λ m. entry_changes m e) result) }
+    ensures same { Grows (S.seen store.old).told (S.seen store.new).told
+        (λ d more. SameData (S.seen store.old).geometry d more) }
+    ensures either { IfSome (S.seen store.old).planned (λ e.
+        ((S.seen store.new).placed ≡ (S.seen store.old).placed)
+        ⊎ ((S.seen store.new).placed ≡ placed_after (S.seen store.old).placed e)) }
     ensures number { result ≡ None
         → (S.seen store.new).number ≡ (S.seen store.old).number + 1 }
     ensures settled { result ≡ None → IfSome (S.seen store.new).told (λ d. IsSettled d.trace) }
@@ -112,6 +125,11 @@ fn end_mount<S: Store>(
         → IfSome (reply_of result) (λ q. L.Does t ledger.new who Act.Unmount (Some q)) }
     ensures wrote { Unmounts ledger.old.stopped (S.seen store.old) (S.seen store.new)
         (S.both store.old) (S.both store.new) ledger.old.queue result }
+    ensures same { Grows (S.seen store.old).told (S.seen store.new).told
+        (λ d more. SameData (S.seen store.old).geometry d more) }
+    ensures either { ((S.seen store.new).placed ≡ (S.seen store.old).placed)
+        ⊎ ((S.seen store.new).placed
+        ≡ placed_without (S.seen store.old).placed ledger.old.queue) }
 {
     if let Some(refusal) = ledger.unmount_refused(who) {
         return unmount_refusal(refusal);
@@ -133,15 +151,22 @@ fn end_mount<S: Store>(
 impl<'t, S: Store> Volume<'t, S> {
     /// Closes every slot, purges all that was unlinked, makes the map last and empties the journal;
     /// then gives out the history and what kept the blobs. The event and what the device was asked are
-    /// those that a volume with this history and store would show, and the history is legal. After
-    /// `NoMemory` the device is as it was.
+    /// those that a volume with this history and store would show, and the history is legal. The data
+    /// blocks are as they were, and blobs that are still there lie where they lay. After `NoMemory` the
+    /// device is as it was.
     pub fn unmount(self, alloc: Global, who: Who) -> (History, S, Result<(), UnmountFault>)
         requires spare { 1 ≤ self.spare }
         requires none { (last_state self.history self.next).adds ≡ [] }
         ensures row { (v : Seen) × (v.history ≡ result.0.history)
             × (v.store ≡ record (S.seen result.1) { planned = None })
             × Does self.entry v who Act.Unmount (reply_of result.2) × Legal v.history v.next
-            × IsSafe v }
+            × IsSafe v × HasBlobsNow v }
+        ensures same { Grows self.entry.store.told (S.seen result.1).told
+            (λ d more. SameData self.entry.store.geometry d more) }
+        ensures placed { (r : Root) (places : List ℕ)
+            → (last_state self.entry.history self.entry.next).stopped ≡ None
+            → find (S.seen result.1).placed r ≡ Some places
+            → find self.entry.store.placed r ≡ Some places }
         ensures settled { OnOk result.2 (IfSome (S.seen result.1).told (λ d. IsSettled d.trace)) }
     {
         let Volume {

@@ -20,3 +20,9 @@ returns-in-Err-clause-ends g c =
       both = λ none. cc;
       number = e.number;
     }
+
+pub returns-in-Ok-clause-same : goal.returns-in-Ok-clause-same
+returns-in-Ok-clause-same g c = grows_so _ _ _ _ (λ d more p. p.1) c.in-Ok.ensures.grows
+
+pub returns-in-Err-clause-same : goal.returns-in-Err-clause-same
+returns-in-Err-clause-same g c = grows_so _ _ _ _ (λ d more p. p.1) c.in-Err.ensures.grows

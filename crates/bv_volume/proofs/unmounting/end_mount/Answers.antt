@@ -1,8 +1,9 @@
-use Rattle.std.proofs.Common.{◌≡◌, ◌++◌, ◌+◌, [], false, rules, List, Some, None, refl, ap, sym, ◌∙◌, subst, arith}
+use Rattle.std.proofs.Common.{◌≡◌, ◌⊎◌, inl, ℕ, ◌++◌, ◌+◌, [], false, rules, List, Some, None, refl, ap, sym, ◌∙◌, subst, arith}
 use Rattle.spec_tree.specs.declared.Digest.{Digest}
 use Rattle.spec_core.specs.Choice.{is_empty}
 use Rattle.spec_core.specs.Log.{purges}
-use Rattle.bv_store.specs.Stored.{Stored}
+use Rattle.bv_store.specs.Stored.{Stored, Grows, SameData, placed_without}
+use Rattle.bv_volume.proofs.SessionCalls.{same_data}
 use Rattle.bv_volume.specs.Wrote.{Lasts}
 use Rattle.std.proofs.lemmas.Grind.{common_steps}
 use Rattle.bv_volume.proofs.Joins.{nothing_there, planned_lasts}
@@ -67,3 +68,31 @@ returns-clause-wrote g c =
       number = λ ok. rw full (e.number ok ∙ ap (λ (x : Stored). x.number + 1) c.in-Ok.ensures.ok);
       settled = e.settled;
     }))
+
+pub returns-clause-same : goal.returns-clause-same
+returns-clause-same g c =
+    let s = g.S.Store.seen c.args.store.now in
+    let z = g.S.Store.seen c.plan.new.self in
+    let w = g.S.Store.seen c.end_with_purges-failed.new.store in
+    subst (λ (x : Stored). Grows x.told w.told (λ d more. SameData x.geometry d more)) c.in-Ok.ensures.ok c.end_with_purges-failed.ensures.same
+
+pub returns-clause-either : goal.returns-clause-either
+returns-clause-either g c =
+    let s = g.S.Store.seen c.args.store.now in
+    let z = g.S.Store.seen c.plan.new.self in
+    let w = g.S.Store.seen c.end_with_purges-failed.new.store in
+    let is = ap (λ (x : Stored). x.planned) c.in-Ok.ensures.ok in
+    let either : (w.placed ≡ z.placed) ⊎ (w.placed ≡ placed_without z.placed c.queue-2.result.now) = rw is at c.end_with_purges-failed.ensures.either in
+    subst (λ (q : List Digest). (w.placed ≡ s.placed) ⊎ (w.placed ≡ placed_without s.placed q)) c.queue-2.ensures
+    (subst (λ (ps : List (Digest × List ℕ)). (w.placed ≡ ps) ⊎ (w.placed ≡ placed_without ps c.queue-2.result.now)) (ap (λ (x : Stored). x.placed) c.in-Ok.ensures.ok) either)
+
+pub returns-in-Some-clause-same : goal.returns-in-Some-clause-same
+returns-in-Some-clause-same g c = let s = g.S.Store.seen c.args.store.now in same_data s.geometry s.told
+
+pub returns-in-Err-clause-same : goal.returns-in-Err-clause-same
+returns-in-Err-clause-same g c =
+    let s = g.S.Store.seen c.args.store.now in
+    subst (λ (x : Stored). Grows s.told x.told (λ d more. SameData s.geometry d more)) (sym c.in-Err.ensures.err) (same_data s.geometry s.told)
+
+pub returns-in-Err-clause-either : goal.returns-in-Err-clause-either
+returns-in-Err-clause-either g c = inl (ap (λ (x : Stored). x.placed) c.in-Err.ensures.err)

@@ -2,7 +2,9 @@ use Rattle.std.proofs.Common.{ap, sym, subst}
 use Rattle.spec_core.specs.State.{State}
 use Rattle.spec_rest.specs.Rest.{Map}
 use Rattle.bv_volume.specs.Sound.{PublishedAreSound}
+use Rattle.bv_volume.specs.Kept.{seen_of}
 use Rattle.bv_volume.proofs.Shown.{blobs_now}
+use Rattle.bv_volume.proofs.SoundNow.{published_now}
 use Rattle.bv_volume.proofs.volume.Volume.history.Goals as goal
 
 pub returns-clause-calls : goal.returns-clause-calls
@@ -29,3 +31,12 @@ returns-clause-sound g c =
 
 pub returns-clause-contents : goal.returns-clause-contents
 returns-clause-contents g c = rw (← c.self.view_is) c.self.invariant.2.contents
+
+pub returns-clause-published : goal.returns-clause-published
+returns-clause-published g c =
+    let i = c.self.inside in
+    let s = g.S.Store.seen i.store in
+    rw (← c.self.view_is)
+    (published_now (seen_of i.history i.first i.ledger i.space s)
+    (blobs_now i.history i.first i.ledger i.space s (g.S.Store.both i.store) c.self.invariant.0 (g.met.S.Store.shown i.store))
+    (subst (λ (m : Map). PublishedAreSound i.history.history m s) (sym (ap (λ (x : State). x.map) c.self.invariant.0.state)) c.self.invariant.3))
