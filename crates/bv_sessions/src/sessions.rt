@@ -15,13 +15,14 @@ use bv_volume::Volume;
 use spec_script::ScriptLine;
 use std::alloc::Global;
 use std::sync::Wait;
+use std::thread::Threads;
 
 /// Runs the sessions of these lines over a volume whose history has no event yet, and unmounts it
 /// where all sessions did all their lines. A session that finds no memory ends, and the others go
 /// on; then the volume is given up as it is.
 ///
 /// `claims` is the table of the volume's reservations.
-pub fn run_sessions<'t, R: Wait, S: Store, G: Gate>(
+pub fn run_sessions<'t, R: Threads + Wait + Sync, S: Store + Send, G: Gate + Sync>(
     rt: &R,
     alloc: Global,
     volume: Volume<'t, S>,

@@ -1,5 +1,9 @@
+use denote.Param.Send.{sendable}
 use Rattle.std.proofs.Common.{◌∙◌, sym, subst, List}
 use Rattle.spec_session.specs.declared.end.SessionEnd.{SessionEnd}
+use Rattle.std.proofs.Crossing.{crosses}
+use Rattle.bv_cache.proofs.kept.Kept.TheSendSync as kept
+use Rattle.bv_volume.proofs.volume.Volume.TheSendSync as volume
 use Rattle.bv_sessions.specs.Runs.{Runs}
 use Rattle.bv_sessions.proofs.RunsLemmas.{closed_runs, gave_none, left_shared, none_left}
 use Rattle.bv_sessions.proofs.sessions.run_sessions.Goals as goal
@@ -30,3 +34,6 @@ returns-in-Err-run_all g c =
     let r = c.give_up-in-Err-run_all.result in let v = c.into_volume in
     gave_none c.args.lines.now c.args.volume v.result r.history.history (g.S.Store.seen r.store) r.whole r.ends.items c.new-in-Err-run_all.result.items
     (v.ensures.volume ∙ (λ i. (c.in-Err-run_all.ensures.err i).volume) ∙ c.in-Ok.ensures.ok.0) c.give_up-in-Err-run_all.ensures.ends c.new-in-Err-run_all.ensures.items c.requires.fresh c.requires.disk c.give_up-in-Err-run_all.ensures.whole c.give_up-in-Err-run_all.ensures.gives
+
+pub run_all-requires-send-V : goal.run_all-requires-send-V
+run_all-requires-send-V g c κs within = let s = c.type_bounds.send-S in search (sendable, crosses, kept.the_send, volume.the_send) depth 20
