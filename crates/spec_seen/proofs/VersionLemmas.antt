@@ -98,7 +98,7 @@ was_purged from m (x ∷ rs) r blob once is =
 
 -- ---- a deed that publishes nothing
 
-abbrev IsSilent : Deed → Type 0
+abbrev pub IsSilent : Deed → Type 0
 IsSilent (Publishes x) = ⊥
 IsSilent d = Unit {0}
 
@@ -128,7 +128,7 @@ less_deed g s (Empties false) silent once = less_same s.map s.map refl once
 
 -- ---- acts that publish nothing
 
-abbrev PublishesNone : Act → Reply → Type 0
+abbrev pub PublishesNone : Act → Reply → Type 0
 PublishesNone (Settle x) Published = ⊥
 PublishesNone a q = Unit {0}
 
@@ -156,7 +156,7 @@ unmount_silent : (q : Reply) → IsSilent (unmount_deed q)
 unmount_silent Unmounted = tt
 unmount_silent _ = tt
 
-silent : (w : Who) (a : Act) (q : Reply) → PublishesNone a q → IsSilent (deed_of w a q)
+pub silent : (w : Who) (a : Act) (q : Reply) → PublishesNone a q → IsSilent (deed_of w a q)
 silent w (Settle x) q none = settle_silent x q none
 silent w (Open slot x) q none = open_silent w slot x q
 silent w (Close slot) q none = close_silent w slot q

@@ -2,4 +2,5 @@
 pub mod ByLine
 pub mod Held
 pub mod Pages
+pub mod Published
 pub mod Versions

@@ -3,6 +3,7 @@
 ghost use Rattle.spec_seen.specs.ByLine.{LinesAddOnce};
 ghost use Rattle.spec_seen.specs.Held.{HeldBlobsStayPublished, HeldBlobsStayWhere};
 ghost use Rattle.spec_seen.specs.Pages.{PagesShow};
+ghost use Rattle.spec_seen.specs.Published.{LoggedRootsHavePublishers};
 ghost use Rattle.spec_seen.specs.Versions.{MapHasVersions};
 
 /// A line whose result came of pages as the device has them says of the device what it should.
@@ -30,4 +31,9 @@ pub fn a_held_blob_stays_where_it_is()
 /// the opening image.
 pub fn a_blob_of_the_map_has_its_publishers_version()
     ensures { MapHasVersions }
+{}
+
+/// While no write or sync has failed, a root that the log publishes was published by somebody.
+pub fn a_root_of_the_log_has_a_publisher()
+    ensures { LoggedRootsHavePublishers }
 {}
