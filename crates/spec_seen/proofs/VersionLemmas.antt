@@ -45,7 +45,7 @@ use Rattle.spec_orderly.proofs.Adding.{Fresh, Once, emptied_map, fresh_change, n
 use Rattle.spec_served.specs.Places.{image_version, publisher, publisher_after, record_version, version_by}
 use Rattle.spec_seen.specs.Versions.{MapHasVersions}
 
-abbrev Map : Type 0
+abbrev pub Map : Type 0
 Map = List (Digest × Blob)
 
 -- ---- maps in which each root stands once
@@ -168,14 +168,14 @@ silent w _ q none = tt
 -- ---- the version of one root's blob
 
 -- by who published it last: the volume's version, or the opening's blob
-abbrev IsOf : ℕ → Map → Digest → Blob → Option Who → Type 0
+abbrev pub IsOf : ℕ → Map → Digest → Blob → Option Who → Type 0
 IsOf version opening r blob None = find opening r ≡ Some blob
 IsOf version opening r blob (Some w) = blob.version ≡ version
 
-record Versioned (version : ℕ) (opening : Map) (r : Digest) (last : Option Who) (s : State) : Type 0 where
-  fresh : Fresh s
-  once : Once digest_cmp s.map
-  told : (blob : Blob) → find s.map r ≡ Some blob → IsOf version opening r blob last
+pub record Versioned (version : ℕ) (opening : Map) (r : Digest) (last : Option Who) (s : State) : Type 0 where
+  pub fresh : Fresh s
+  pub once : Once digest_cmp s.map
+  pub told : (blob : Blob) → find s.map r ≡ Some blob → IsOf version opening r blob last
 
 blob_version : (g : Setting) (o : Option ℕ) → (blob_of g o).version ≡ g.version
 blob_version g None = refl
@@ -219,7 +219,7 @@ versioned_all g opening r last s [] k steps = k
 versioned_all g opening r last s (e ∷ es) k steps =
     versioned_all g opening r (publisher_after r last e.who e.act e.reply) (after g s e) es (versioned_after g opening r last s k e.who e.act e.reply steps.0) steps.1
 
-versioned_last : (h : History) (next : ℕ) (r : Digest) → Legal h next → Versioned h.version (opening_map h) r (publisher r None h.events) (last_state h next)
+pub versioned_last : (h : History) (next : ℕ) (r : Digest) → Legal h next → Versioned h.version (opening_map h) r (publisher r None h.events) (last_state h next)
 versioned_last h next r legal =
     versioned_all (setting_of h) (opening_map h) r None (first_state (opening_map h) next) h.events
     (record {

@@ -1,9 +1,9 @@
 -- A line that has published puts nothing more, so that a blob's blocks stay the same.
-use Rattle.std.proofs.Common.{◌≡◌, ◌⊎◌, inl, inr, ℕ, ◌==◌, ◌&&◌, Bool, true, false, cond, Option, Some, None, List, [], ◌∷◌, ◌++◌, map, refl, ap, sym, ◌∙◌, subst, append_assoc, eq-eqb}
-use Rattle.std.specs.Prelude.{filter, if◌then◌else◌}
+use Rattle.std.proofs.Common.{◌≤◌, ◌<◌, zero, suc, take, arith, ◌≡◌, ◌⊎◌, inl, inr, ℕ, ◌==◌, ◌&&◌, Bool, true, false, cond, Option, Some, None, List, [], ◌∷◌, ◌++◌, map, refl, ap, sym, ◌∙◌, subst, append_assoc, eq-eqb}
+use Rattle.std.specs.Prelude.{filter, if◌then◌else◌, All, slice_get}
 use Rattle.std.proofs.lemmas.Bool.{eqb-true}
 use Rattle.std.proofs.lemmas.List.{append-nil}
-use Rattle.std.proofs.lemmas.List.Elements.{filter-append}
+use Rattle.std.proofs.lemmas.List.Elements.{All-head, All-tail, filter-append}
 use Rattle.spec_disk.specs.declared.event.Event.{Event}
 use Rattle.spec_disk.specs.Disk.{Blocks}
 use Rattle.spec_tree.specs.declared.Digest.{Digest}
@@ -19,7 +19,7 @@ use Rattle.spec_session.specs.Conform.{events_of}
 use Rattle.spec_session.specs.Told.{same_who}
 use Rattle.spec_served.specs.Adds.{AreByLine, IsByLine, published_by, was_published}
 use Rattle.spec_served.specs.Places.{blocks_by, publisher, publisher_after, put_blocks, was_written, written_at}
-use Rattle.spec_seen.specs.Held.{HeldBlobsStayWhere}
+use Rattle.spec_seen.specs.Held.{BlocksAreKnownByThen, HeldBlobsStayWhere}
 use Rattle.spec_seen.proofs.HeldLemmas.{stay_published}
 
 -- ---- who has published
@@ -137,3 +137,28 @@ pub stay_where : HeldBlobsStayWhere
 stay_where base told h next before more p r legal by is all =
     ap (λ (o : Option Who). blocks_by base told (before ++ more) r o) (stay_published h next before more p r legal is all)
     ∙ same_blocks base told before more r (publisher r None before) refl (rest_by [] before more by)
+
+-- ---- by so many of the device's events
+
+get_taken : (xs : List Event) (c k : ℕ) → k < c → slice_get (take c xs) k ≡ slice_get xs k
+get_taken xs zero k low = absurd (omega (arith, low))
+get_taken [] (suc c) k low = refl
+get_taken (x ∷ xs) (suc c) zero low = refl
+get_taken (x ∷ xs) (suc c) (suc k) low = get_taken xs c k (omega (arith, low))
+
+event_taken : (xs : List Event) (c n : ℕ) → n ≤ c → event_at (take c xs) n ≡ event_at xs n
+event_taken xs c zero within = refl
+event_taken xs c (suc k) within = get_taken xs c k (omega (arith, within))
+
+puts_taken : (told : List Event) (before : List CoreEvent) (who : Who) (c : ℕ) → All (λ e. e.calls ≤ c) before → put_blocks (take c told) before who ≡ put_blocks told before who
+puts_taken told [] who c within = refl
+puts_taken told (e ∷ es) who c within = go (same_who e.who who && was_written e.act e.reply) (puts_taken told es who c (All-tail (λ x. x.calls ≤ c) e es within)) where
+  go : (b : Bool) → put_blocks (take c told) es who ≡ put_blocks told es who
+      → map (λ x. written_at (event_at (take c told) x.calls)) (cond b (e ∷ filter (λ x. same_who x.who who && was_written x.act x.reply) es) (filter (λ x. same_who x.who who && was_written x.act x.reply) es))
+      ≡ map (λ x. written_at (event_at told x.calls)) (cond b (e ∷ filter (λ x. same_who x.who who && was_written x.act x.reply) es) (filter (λ x. same_who x.who who && was_written x.act x.reply) es))
+  go true rest = λ i. written_at (event_taken told c e.calls (All-head (λ x. x.calls ≤ c) e es within) i) ∷ rest i
+  go false rest = rest
+
+pub known_by_then : BlocksAreKnownByThen
+known_by_then base told before r None c within = refl
+known_by_then base told before r (Some who) c within = puts_taken told before who c within

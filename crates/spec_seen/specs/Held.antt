@@ -1,11 +1,12 @@
 -- Who published a blob that a slot holds, and where it lies (this project's profile).
-use Rattle.std.specs.Prelude.{◌≡◌, ℕ, List, [], ◌++◌, None, Some, All}
+use Rattle.std.specs.Prelude.{◌≡◌, ◌≤◌, ℕ, List, [], ◌++◌, take, Option, None, Some, All}
 use Rattle.spec_tree.specs.declared.Digest.{Digest}
 use Rattle.spec_core.specs.History.{History, Legal, last_state}
 use Rattle.spec_core.specs.Laws.{Empties}
 use Rattle.spec_core.specs.State.{held}
 use Rattle.spec_core.specs.declared.event.CoreEvent.{CoreEvent}
 use Rattle.spec_core.specs.declared.place.Place.{Place}
+use Rattle.spec_core.specs.declared.who.Who.{Who}
 use Rattle.spec_disk.specs.declared.event.Event.{Event}
 use Rattle.spec_disk.specs.Disk.{Blocks}
 use Rattle.spec_served.specs.Adds.{AreByLine}
@@ -36,3 +37,12 @@ HeldBlobsStayWhere =
     → All (λ e. ¬ Empties p e.who e.act) more
     → blocks_by base told (before ++ more) r (publisher r None (before ++ more))
     ≡ blocks_by base told before r (publisher r None before)
+
+-- a blob's blocks are known by the device's events up to then: those of so many calls, where each
+-- event ended within them
+abbrev pub BlocksAreKnownByThen : Type 0
+BlocksAreKnownByThen =
+    (base : Blocks) (told : List Event) (before : List CoreEvent) (r : Digest) (who : Option Who)
+    (calls : ℕ)
+    → All (λ e. e.calls ≤ calls) before
+    → blocks_by base (take calls told) before r who ≡ blocks_by base told before r who

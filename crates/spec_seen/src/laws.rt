@@ -1,7 +1,7 @@
 //! Laws of the definitions: what each function here ensures holds of all values.
 
 ghost use Rattle.spec_seen.specs.ByLine.{LinesAddOnce};
-ghost use Rattle.spec_seen.specs.Held.{HeldBlobsStayPublished, HeldBlobsStayWhere};
+ghost use Rattle.spec_seen.specs.Held.{BlocksAreKnownByThen, HeldBlobsStayPublished, HeldBlobsStayWhere};
 ghost use Rattle.spec_seen.specs.Pages.{PagesShow};
 ghost use Rattle.spec_seen.specs.Published.{LoggedRootsHavePublishers};
 ghost use Rattle.spec_seen.specs.Versions.{MapHasVersions};
@@ -36,4 +36,9 @@ pub fn a_blob_of_the_map_has_its_publishers_version()
 /// While no write or sync has failed, a root that the log publishes was published by somebody.
 pub fn a_root_of_the_log_has_a_publisher()
     ensures { LoggedRootsHavePublishers }
+{}
+
+/// A blob's blocks are known by the device's events up to then.
+pub fn blocks_are_known_by_then()
+    ensures { BlocksAreKnownByThen }
 {}
