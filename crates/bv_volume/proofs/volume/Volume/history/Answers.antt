@@ -4,7 +4,7 @@ use Rattle.spec_rest.specs.Rest.{Map}
 use Rattle.bv_volume.specs.Sound.{PublishedAreSound}
 use Rattle.bv_volume.specs.Kept.{seen_of}
 use Rattle.bv_volume.proofs.Shown.{blobs_now}
-use Rattle.bv_volume.proofs.SoundNow.{published_now}
+use Rattle.bv_volume.proofs.SoundNow.{published_now, sound_found}
 use Rattle.bv_volume.proofs.volume.Volume.history.Goals as goal
 
 pub returns-clause-calls : goal.returns-clause-calls
@@ -40,3 +40,11 @@ returns-clause-published g c =
     (published_now (seen_of i.history i.first i.ledger i.space s)
     (blobs_now i.history i.first i.ledger i.space s (g.S.Store.both i.store) c.self.invariant.0 (g.met.S.Store.shown i.store))
     (subst (λ (m : Map). PublishedAreSound i.history.history m s) (sym (ap (λ (x : State). x.map) c.self.invariant.0.state)) c.self.invariant.3))
+
+pub returns-clause-found : goal.returns-clause-found
+returns-clause-found g c =
+    let i = c.self.inside in
+    let s = g.S.Store.seen i.store in
+    rw (← c.self.view_is)
+    (sound_found (seen_of i.history i.first i.ledger i.space s)
+    (blobs_now i.history i.first i.ledger i.space s (g.S.Store.both i.store) c.self.invariant.0 (g.met.S.Store.shown i.store)) c.self.invariant.0.legal c.self.invariant.2.located c.self.invariant.2.contents)
