@@ -111,7 +111,7 @@ look_unpublished slot look.Scan q = refl
 -- ---- a sync
 
 -- purges take blobs away alone
-map_sub : (m : Map) (rs : List Digest) → Sole m → (r : Digest) (blob : Blob) → find (changed m (purges m rs)) r ≡ Some blob → find m r ≡ Some blob
+pub map_sub : (m : Map) (rs : List Digest) → Sole m → (r : Digest) (blob : Blob) → find (changed m (purges m rs)) r ≡ Some blob → find m r ≡ Some blob
 map_sub m [] sole r blob is = is
 map_sub m (x ∷ rs) sole r blob is =
     let one : changed m (purges m (x ∷ rs)) ≡ changed (without m x) (purges (without m x) rs) = changed_by_one m x (find m x) (purges (without m x) rs) refl in

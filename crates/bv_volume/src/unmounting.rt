@@ -13,6 +13,7 @@ ghost use Rattle.bv_volume.specs.Answers.{unmount_reply as reply_of};
 ghost use Rattle.bv_volume.specs.Ended.{Unmounts, device_answer, refusal_answer};
 ghost use Rattle.bv_volume.specs.Events.{Does};
 ghost use Rattle.bv_volume.specs.Seen.{HasBlobsNow, IsSafe, Seen};
+ghost use Rattle.bv_volume.specs.Sound.{FoundAreSoundNow, PublishedAreSoundNow};
 ghost use Rattle.bv_volume.specs.Wrote.{Ends, Lasts};
 
 use crate::device::{commit_and_sync, sync_store};
@@ -160,7 +161,8 @@ impl<'t, S: Store> Volume<'t, S> {
         ensures row { (v : Seen) × (v.history ≡ result.0.history)
             × (v.store ≡ record (S.seen result.1) { planned = None })
             × Does self.entry v who Act.Unmount (reply_of result.2) × Legal v.history v.next
-            × IsSafe v × HasBlobsNow v }
+            × IsSafe v × HasBlobsNow v
+            × PublishedAreSoundNow v × FoundAreSoundNow v }
         ensures same { Grows self.entry.store.told (S.seen result.1).told
             (λ d more. SameData self.entry.store.geometry d more) }
         ensures placed { (r : Root) (places : List ℕ)
