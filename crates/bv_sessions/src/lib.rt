@@ -1,5 +1,5 @@
-//! The run of a script: its sessions one after another, over a value behind the lock or over a
-//! mounted volume.
+//! The run of a script: its sessions, each in a thread, over a value behind the lock or over a mounted
+//! volume.
 #![tactic(auto)]
 
 mod back;
