@@ -1,0 +1,11 @@
+//! Tests of scripts on volumes that are mounted, by what their lines answer.
+#![tactic(auto)]
+
+#[cfg(test)]
+mod answers;
+#[cfg(test)]
+mod device;
+#[cfg(test)]
+mod scripts;
+#[cfg(test)]
+mod side_by_side;
