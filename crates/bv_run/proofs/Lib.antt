@@ -1,0 +1,8 @@
+-- Lemmas on words, sources, statuses, answers and runs.
+pub mod AskedLemmas
+pub mod MakingLemmas
+pub mod RanLemmas
+pub mod RefusedLemmas
+pub mod ScriptLemmas
+pub mod StatusLemmas
+pub mod WordsLemmas
