@@ -10,14 +10,14 @@ use Rattle.std.specs.Prelude.{◌≡◌, ◌⊎◌, ℕ, List, [], ◌∷◌, co
 use Rattle.spec_faults.specs.Faults.{CountsFaults}
 use Rattle.bv_device.specs.declared.failed.Failed.{Failed}
 use Rattle.bv_device.specs.Seen.{Seen}
-use Rattle.bv_serve.specs.declared.command.Command.{Command}
 use Rattle.bv_serve.specs.declared.refusal.Refusal.{Refusal}
 use Rattle.bv_serve.specs.declared.refusal.Refusal.TheVariants.{DeviceFault, NoMemory}
 use Rattle.bv_serve.specs.declared.status.Status.{Status}
 use Rattle.bv_serve.specs.Lines.{refusal_line, refusal_status}
 use Rattle.bv_serve.specs.Runs.{Change, LeavesAlone, Prints, PrintsAt}
-use Rattle.bv_serve.specs.Serves.{Serves, LeavesDevice}
-use Rattle.bv_serve.specs.Words.{IsForm}
+use Rattle.bv_run.specs.declared.work.Work.{Work}
+use Rattle.bv_run.specs.Top.{LeavesDevice, ServesAll}
+use Rattle.bv_run.specs.Work.{Writes}
 use Rattle.bv_main.specs.Access.{access_of}
 use Rattle.bv_main.specs.declared.access.Access.{Access}
 use Rattle.bv_main.specs.declared.device_word.DeviceWord.{DeviceWord}
@@ -32,7 +32,7 @@ pub record IsRun (words : List (List ℕ)) (device : DeviceWord) (access : Acces
   pub word : List ℕ
   pub is : words ≡ word ∷ command
   pub named : Names word device
-  pub form : (c : Command) × IsForm command c × (access ≡ access_of c)
+  pub form : (work : Work) × Writes command work × (access ≡ access_of work)
 
 -- the words ask for this
 abbrev pub Asks : List (List ℕ) → Request → Type 0
@@ -62,7 +62,7 @@ memory blocks = record {
 
 -- the top call was made on a device that was so at the call, and that nobody has afterwards
 abbrev pub RunsOn : Seen → List (List ℕ) → Status → Change → Change → Type 0
-RunsOn old command ended input out = (new : Seen) × Serves command ended old new input out
+RunsOn old command ended input out = (new : Seen) × ServesAll command ended old new input out
 
 -- Below, F is what opens files and D an open file. `seen` is what a contract sees of a file,
 -- `count` the failed openings, and the rest says what came of opening, making and closing one.
@@ -86,7 +86,7 @@ module _ {F D : Type 0} (seen : D → Seen) (count : F → ℕ)
   pub record RunsOnOpen (dev : D) (old new : F) (command : List (List ℕ)) (ended : Status)
       (input out : Change) : Type 0 where
     pub left : D
-    pub serves : Serves command ended (seen dev) (seen left) input out
+    pub serves : ServesAll command ended (seen dev) (seen left) input out
     pub untouched : LeavesDevice command ended → left ≡ dev
     pub closed : closes old left new
     pub kept : count new ≡ count old

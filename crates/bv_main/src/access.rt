@@ -2,7 +2,7 @@
 ghost use Rattle.std.specs.Prelude.{◌≡◌};
 ghost use Rattle.bv_main.specs.Access.{access_of};
 
-use bv_serve::Command;
+use bv_run::{Command, Work};
 
 /// What a command may do to the file of its device.
 #[derive(Clone, Copy, Debug, PartialEq, Eq)]
@@ -15,11 +15,11 @@ pub enum Access {
 
 impl Access {
     /// What this command may do.
-    pub fn of(command: Command) -> Access
-        ensures { result ≡ access_of command }
+    pub fn of(work: Work) -> Access
+        ensures { result ≡ access_of work }
     {
-        match command {
-            Command::Root | Command::ListBlobs | Command::Check => Access::Read,
+        match work {
+            Work::Plain(Command::Root | Command::ListBlobs | Command::Check) => Access::Read,
             _ => Access::Write,
         }
     }

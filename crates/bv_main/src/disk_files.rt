@@ -10,7 +10,7 @@ use bv_device::{Device, Failed};
 /// Opens, makes and closes files of blocks.
 pub trait DiskFiles {
     /// An open file. It can't be let go: it has to be closed.
-    type Disk: Device;
+    type Disk: Device + Send;
 
     /// What came of opening this path for such access, and what is left of `self`.
     ghost open_gives: { Self → Access → List ℕ → Result Self.Disk Failed → Self → Type 0 };

@@ -20,25 +20,32 @@ use crate::program::answer;
 use crate::reader_source::ReaderSource;
 use crate::writer_sink::WriterSink;
 use bv_io::Sink;
-use bv_serve::{Refusal, Status, refuse};
+use bv_run::{Refusal, Status, refuse};
 use std::io::{Error, ErrorKind};
 use std::process::ExitCode;
+use std::sync::Wait;
+use std::thread::Threads;
 use std::{env, io};
 
 fn main(rt: HostRuntime) -> ExitCode {
     let mut out = WriterSink::new(rt.stdout());
-    let status = run_program(&rt, &mut out);
+    let status = run_program(&rt, &rt, &mut out);
     tell(&rt, "output", out.cause());
     ExitCode::from(status.code())
 }
 
-// Runs the program with what it writes handed in.
-fn run_program<K: Sink>(rt: &HostRuntime, out: &mut K) -> Status {
+// Runs the program with what it writes handed in. `threads` is the runtime again, which
+// starts the sessions' threads.
+fn run_program<R: Threads + Wait + Sync, K: Sink>(
+    rt: &HostRuntime,
+    threads: &R,
+    out: &mut K,
+) -> Status {
     match words(rt) {
         Ok(words) => {
             let mut files = HostFiles::new(rt);
             let mut input = ReaderSource::new(rt.stdin());
-            let status = answer(rt.alloc(), &words, &mut files, &mut input, out);
+            let status = answer(threads, rt.alloc(), &words, &mut files, &mut input, out);
             tell(rt, "device", device_cause(status, &files));
             tell(rt, "input", input.cause());
             status

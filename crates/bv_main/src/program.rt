@@ -12,13 +12,16 @@ use crate::disk_files::DiskFiles;
 use crate::request::Request;
 use crate::texts::{HELP, VERSION};
 use bv_device::{Device, Failed, MemDevice};
-use bv_io::{Sink, Source};
-use bv_serve::{Refusal, Status, print, refuse, run};
+use bv_io::{NoGate, Sink, Source};
+use bv_run::{Refusal, Status, print, refuse, run};
 use std::alloc::Global;
+use std::sync::Wait;
+use std::thread::Threads;
 
 /// Prints the help or the version where that is the only word, and else makes the top call on the
 /// device that the words name. Words of no form are refused before a file is opened or made.
-pub fn answer<F: DiskFiles, S: Source, K: Sink>(
+pub fn answer<R: Threads + Wait + Sync, F: DiskFiles, S: Source, K: Sink>(
+    rt: &R,
     alloc: Global,
     words: &[String],
     files: &mut F,
@@ -40,7 +43,7 @@ pub fn answer<F: DiskFiles, S: Source, K: Sink>(
         Some(Request::Version) => print(out, VERSION.as_bytes()),
         Some(Request::Root) => {
             let no_blocks = MemDevice::from_blocks(alloc, Vec::new(alloc));
-            run_on(alloc, words, no_blocks, input, out)
+            run_on(rt, alloc, words, no_blocks, input, out)
         }
         Some(
             Request::On {
@@ -48,13 +51,14 @@ pub fn answer<F: DiskFiles, S: Source, K: Sink>(
                 access,
                 command,
             },
-        ) => run_on_word(alloc, device, access, command, files, input, out),
+        ) => run_on_word(rt, alloc, device, access, command, files, input, out),
         None => refuse(out, Refusal::Usage),
     }
 }
 
 /// Makes the top call on the device that a word names, opened for such access.
-fn run_on_word<F: DiskFiles, S: Source, K: Sink>(
+fn run_on_word<R: Threads + Wait + Sync, F: DiskFiles, S: Source, K: Sink>(
+    rt: &R,
     alloc: Global,
     device: DeviceWord<'_>,
     access: Access,
@@ -71,22 +75,23 @@ fn run_on_word<F: DiskFiles, S: Source, K: Sink>(
 {
     match device {
         DeviceWord::Mem { blocks } => match MemDevice::new(alloc, blocks) {
-            Ok(dev) => run_on(alloc, command, dev, input, out),
+            Ok(dev) => run_on(rt, alloc, command, dev, input, out),
             Err(_) => refuse(out, Refusal::NoMemory),
         },
         DeviceWord::New { blocks, path } => {
             let made = files.make(blocks, path);
-            run_on_file(alloc, command, made, files, input, out)
+            run_on_file(rt, alloc, command, made, files, input, out)
         }
         DeviceWord::File { path } => {
             let opened = files.open(access, path);
-            run_on_file(alloc, command, opened, files, input, out)
+            run_on_file(rt, alloc, command, opened, files, input, out)
         }
     }
 }
 
 /// Makes the top call on a file, if there is one, and closes it.
-fn run_on_file<F: DiskFiles, S: Source, K: Sink>(
+fn run_on_file<R: Threads + Wait + Sync, F: DiskFiles, S: Source, K: Sink>(
+    rt: &R,
     alloc: Global,
     command: &[String],
     made: Result<F::Disk, Failed>,
@@ -101,7 +106,7 @@ fn run_on_file<F: DiskFiles, S: Source, K: Sink>(
 {
     match made {
         Ok(dev) => {
-            let (status, dev) = run(alloc, command, dev, input, out);
+            let (status, dev) = run(rt, alloc, command, dev, input, out, &NoGate);
             files.close(dev);
             status
         }
@@ -110,7 +115,8 @@ fn run_on_file<F: DiskFiles, S: Source, K: Sink>(
 }
 
 /// Makes the top call on a device that nobody wants afterwards.
-fn run_on<D: Device + Drop, S: Source, K: Sink>(
+fn run_on<R: Threads + Wait + Sync, D: Device + Drop + Send, S: Source, K: Sink>(
+    rt: &R,
     alloc: Global,
     command: &[String],
     dev: D,
@@ -122,6 +128,6 @@ fn run_on<D: Device + Drop, S: Source, K: Sink>(
         (change (S.seen input.old) (S.seen input.new))
         (change (K.seen out.old) (K.seen out.new)) }
 {
-    let (status, _) = run(alloc, command, dev, input, out);
+    let (status, _) = run(rt, alloc, command, dev, input, out, &NoGate);
     status
 }

@@ -5,7 +5,7 @@ ghost use Rattle.bv_main.specs.Program.{Asks, AsksNothing};
 
 use crate::access::Access;
 use crate::device_word::DeviceWord;
-use bv_serve::Command;
+use bv_run::Work;
 
 /// What the words ask for.
 #[derive(Clone, Copy, Debug)]
@@ -36,7 +36,7 @@ impl<'a> Request<'a> {
             [word] if word.as_str() == "root" => Some(Request::Root),
             [word, command @ ..] => {
                 let device = DeviceWord::parse(word)?;
-                let access = Access::of(Command::parse(command)?);
+                let access = Access::of(Work::parse(command)?);
                 Some(Request::On {
                     device,
                     access,

@@ -14,7 +14,9 @@ use std::cell::Cell;
 use std::fs::{self, File, Metadata, OpenFile};
 use std::io::{self, Error, ErrorKind, Read};
 use std::os::unix::fs::FileExt;
+use std::sync::Wait;
 use std::test::Fail;
+use std::thread::Threads;
 
 // A reader that is interrupted once before each byte, and breaks after the third.
 #[derive(Drop)]
@@ -137,7 +139,12 @@ fn a_file_counts_each_call_that_fails(rt: HostRuntime) {
 }
 
 // The status of these words, where the program prints what begins so.
-fn answers(rt: &HostRuntime, line: &str, first: &str) -> Result<Option<Status>, AllocError> {
+fn answers<R: Threads + Wait + Sync>(
+    rt: &HostRuntime,
+    threads: &R,
+    line: &str,
+    first: &str,
+) -> Result<Option<Status>, AllocError> {
     let alloc: Global = rt.alloc();
     let mut words = Vec::new(alloc);
     for word in line.split_whitespace() {
@@ -146,7 +153,7 @@ fn answers(rt: &HostRuntime, line: &str, first: &str) -> Result<Option<Status>, 
     let mut files = HostFiles::new(rt);
     let mut input = MemSource::new(Vec::new(alloc), Vec::new(alloc));
     let mut out = MemSink::new(Vec::new(alloc), alloc);
-    let status = answer(alloc, &words, &mut files, &mut input, &mut out);
+    let status = answer(threads, alloc, &words, &mut files, &mut input, &mut out);
     Ok(out.bytes().starts_with(first.as_bytes()).then_some(status))
 }
 
@@ -176,13 +183,21 @@ fn words_are_answered_as_their_forms_say(rt: HostRuntime) -> Result<(), Fail> {
         ),
         ("mem:83 format 64 128 16", "formatted\n", Status::Ok),
         (
+            "mem:83 fresh 64 128 16",
+            "history\n1 16 0 unmount unmounted @",
+            Status::Ok,
+        ),
+        ("mem:83 fresh 64 128", "usage:", Status::Usage),
+        ("mem:83 demo 33", "usage:", Status::Usage),
+        ("mem:83 script", "volume: magic\n", Status::Volume),
+        (
             "mem:82 format 64 128 16",
             "volume: short 83 82\n",
             Status::Volume,
         ),
     ];
     for (line, first, want) in rows {
-        assert_eq!(rt; answers(&rt, line, first)?, Some(want), "{line}");
+        assert_eq!(rt; answers(&rt, &rt, line, first)?, Some(want), "{line}");
     }
     assert!(rt; fs::metadata(&rt, "absent.img").is_err());
     Ok(())
@@ -234,14 +249,19 @@ fn volume(alloc: Global, version: u8) -> Result<Vec<u8>, AllocError> {
 
 #[test]
 fn a_new_file_is_formatted_and_opened_again(rt: HostRuntime) -> Result<(), Fail> {
-    let status = answers(&rt, "new:83:disk.img format 64 128 16", "formatted\n")?;
+    let status = answers(&rt, &rt, "new:83:disk.img format 64 128 16", "formatted\n")?;
     assert_eq!(rt; status, Some(Status::Ok));
     let made = volume(rt.alloc(), 1)?;
     assert!(rt; fs::read(&rt, "disk.img")? == made);
-    let status = answers(&rt, "new:90:disk.img format2 64 128 16", "device: fault\n")?;
+    let status = answers(
+        &rt,
+        &rt,
+        "new:90:disk.img format2 64 128 16",
+        "device: fault\n",
+    )?;
     assert_eq!(rt; status, Some(Status::Device));
     assert!(rt; fs::read(&rt, "disk.img")? == made);
-    let status = answers(&rt, "file:disk.img format2 64 128 16", "formatted\n")?;
+    let status = answers(&rt, &rt, "file:disk.img format2 64 128 16", "formatted\n")?;
     assert_eq!(rt; status, Some(Status::Ok));
     let made = volume(rt.alloc(), 2)?;
     assert!(rt; fs::read(&rt, "disk.img")? == made);
@@ -257,19 +277,19 @@ fn a_new_file_is_formatted_and_opened_again(rt: HostRuntime) -> Result<(), Fail>
 
 #[test]
 fn one_program_writes_a_file_or_several_read_it(rt: HostRuntime) -> Result<(), Fail> {
-    let made = answers(&rt, "new:83:held.img format 64 128 16", "formatted\n")?;
+    let made = answers(&rt, &rt, "new:83:held.img format 64 128 16", "formatted\n")?;
     assert_eq!(rt; made, Some(Status::Ok));
     let held = File::open(&rt, "held.img")?;
     held.lock_shared()?;
-    let listed = answers(&rt, "file:held.img list", "")?;
+    let listed = answers(&rt, &rt, "file:held.img list", "")?;
     assert_eq!(rt; listed, Some(Status::Ok));
-    let refused = answers(&rt, "file:held.img recover", "device: fault\n")?;
+    let refused = answers(&rt, &rt, "file:held.img recover", "device: fault\n")?;
     assert_eq!(rt; refused, Some(Status::Device));
     held.lock()?;
-    let refused = answers(&rt, "file:held.img check", "device: fault\n")?;
+    let refused = answers(&rt, &rt, "file:held.img check", "device: fault\n")?;
     assert_eq!(rt; refused, Some(Status::Device));
     held.unlock()?;
-    let recovered = answers(&rt, "file:held.img recover", "recovered 0\n")?;
+    let recovered = answers(&rt, &rt, "file:held.img recover", "recovered 0\n")?;
     assert_eq!(rt; recovered, Some(Status::Ok));
     fs::remove_file(&rt, "held.img")?;
     Ok(())
@@ -279,6 +299,7 @@ fn one_program_writes_a_file_or_several_read_it(rt: HostRuntime) -> Result<(), F
 fn a_file_of_less_than_a_block_has_none(rt: HostRuntime) -> Result<(), Fail> {
     fs::write(&rt, "short.img", "less than a block")?;
     let status = answers(
+        &rt,
         &rt,
         "file:short.img format 64 128 16",
         "volume: short 83 0\n",
