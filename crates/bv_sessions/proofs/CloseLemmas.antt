@@ -11,6 +11,7 @@ use Rattle.bv_store.specs.Stored.{Stored}
 use Rattle.bv_volume.specs.Answers.{unmount_reply}
 use Rattle.bv_volume.specs.Events.{Does}
 use Rattle.bv_volume.specs.Seen.{Seen as Volume, IsSafe}
+use Rattle.bv_volume.specs.Sound.{FoundAreSoundNow, PublishedAreSoundNow}
 use Rattle.bv_volume.specs.declared.unmounting.UnmountFault.{UnmountFault}
 use Rattle.bv_volume.specs.declared.unmounting.UnmountFault.TheVariants as unmount
 use Rattle.bv_sessions.specs.Closes.{GivesUp, Unmounts, with_room}
@@ -20,6 +21,7 @@ abbrev pub Shows : Volume → History → Stored → Option Reply → Type 0
 Shows v h store reply =
     (w : Volume) × (w.history ≡ h) × (w.store ≡ record store { planned = None })
     × Does v w program Unmount reply × Legal w.history w.next × IsSafe w
+    × PublishedAreSoundNow w × FoundAreSoundNow w
 
 module _ (v : Volume) (h : History) (store : Stored) where
   -- without an event it was given up
@@ -45,6 +47,8 @@ module _ (v : Volume) (h : History) (store : Stored) where
     store_is = sym s.2;
     legal = s.4;
     safe = s.5;
+    published = s.6;
+    found = s.7;
     settled = settled;
   }
 
@@ -72,5 +76,7 @@ module _ (v : Volume) (h : History) (store : Stored) where
         store_is = k.store_is;
         legal = k.legal;
         safe = k.safe;
+        published = k.published;
+        found = k.found;
         settled = k.settled;
       }

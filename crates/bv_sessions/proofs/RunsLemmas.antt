@@ -175,6 +175,8 @@ module _ (lines : List ScriptLine) (first : Volume) where
     store_is = g.store_is;
     later = later_self first disk;
     safe = g.safe;
+    published = λ is. absurd (cc);
+    found = λ is. absurd (cc);
     settled = λ is. absurd (cc);
   } where
     served : (s : ℕ) → ServedSome lines (record first.history { events = [] }) s []
@@ -258,6 +260,8 @@ module _ (lines : List ScriptLine) (first : Volume) where
       store_is = u.store_is;
       later = later_last u all;
       safe = u.safe;
+      published = λ is. u.published;
+      found = λ is. u.found;
       settled = λ is. settles u all;
     }
     closed_runs false c = let g = c.gives refl in record {
@@ -269,6 +273,8 @@ module _ (lines : List ScriptLine) (first : Volume) where
       store_is = g.store_is;
       later = later_v;
       safe = g.safe;
+      published = λ is. absurd (cc);
+      found = λ is. absurd (cc);
       settled = λ is. absurd (cc);
     }
 

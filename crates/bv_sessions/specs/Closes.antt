@@ -12,6 +12,7 @@ use Rattle.spec_session.specs.declared.end.SessionEnd.{SessionEnd}
 use Rattle.bv_store.specs.Stored.{Stored}
 use Rattle.bv_volume.specs.Events.{Happens}
 use Rattle.bv_volume.specs.Seen.{Seen as Volume, IsSafe}
+use Rattle.bv_volume.specs.Sound.{FoundAreSoundNow, PublishedAreSoundNow}
 
 -- whether no session ended for want of memory
 abbrev pub are_whole : List SessionEnd → Bool
@@ -39,6 +40,8 @@ pub record Unmounts (v : Volume) (h : History) (store : Stored) : Type 0 where
   pub store_is : record store { planned = None } ≡ last.store
   pub legal : Legal last.history last.next
   pub safe : IsSafe last
+  pub published : PublishedAreSoundNow last
+  pub found : FoundAreSoundNow last
   pub settled : reply ≡ Unmounted → IfSome store.told (λ d. IsSettled d.trace)
 
 -- a volume was given up, or where all sessions did all their lines it was unmounted

@@ -9,6 +9,7 @@ use Rattle.spec_session.specs.declared.end.SessionEnd.{SessionEnd}
 use Rattle.bv_device.specs.Told.{now_of}
 use Rattle.bv_store.specs.Stored.{Stored}
 use Rattle.bv_volume.specs.Seen.{Seen as Volume, IsSafe}
+use Rattle.bv_volume.specs.Sound.{FoundAreSoundNow, PublishedAreSoundNow}
 
 -- a volume later in its mount: the mount began with the same, and the device tells of the disk that
 -- it told of then
@@ -39,5 +40,8 @@ pub record Runs (lines : List ScriptLine) (first : Volume) (h : History) (ends :
   pub store_is : record store { planned = None } ≡ last.store
   pub later : IsLater first last
   pub safe : IsSafe last
+  -- behind the unmount each blob that was published, and each that the mount found sound, is sound
+  pub published : whole ≡ true → PublishedAreSoundNow last
+  pub found : whole ≡ true → FoundAreSoundNow last
   -- after a reply `unmounted` the device is settled
   pub settled : whole ≡ true → IsUnmounted h → IfSome store.told (λ d. IsSettled d.trace)
