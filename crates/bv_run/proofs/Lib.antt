@@ -4,5 +4,6 @@ pub mod MakingLemmas
 pub mod RanLemmas
 pub mod RefusedLemmas
 pub mod ScriptLemmas
+pub mod SoundLemmas
 pub mod StatusLemmas
 pub mod WordsLemmas

@@ -8,10 +8,11 @@ use Rattle.spec_disk.specs.Images.{IsSettled}
 use Rattle.spec_core.specs.History.{History, log_of, opening_map}
 use Rattle.spec_core.specs.Log.{changed}
 use Rattle.spec_crash.specs.Crash.{HoldsWhole}
+use Rattle.spec_script.specs.Lawful.{AreLawful}
 use Rattle.spec_script.specs.declared.line.ScriptLine.{ScriptLine}
 use Rattle.spec_session.specs.declared.end.SessionEnd.{SessionEnd}
 use Rattle.spec_headline.specs.Run.{Run, CutShort, Ended, HasWholeBlobs, OpensWith, run_of}
-use Rattle.spec_headline.specs.Headline.{Headline, IsUnmounted, LeavesSettled, Survives}
+use Rattle.spec_headline.specs.Headline.{Headline, IsUnmounted, LeavesSettled, LeavesSound, Survives}
 use Rattle.spec_unmounted.proofs.Leaving.{leaves_all}
 use Rattle.bv_claims.specs.declared.claims.Claims.{Claims}
 use Rattle.bv_device.specs.Seen.{Seen}
@@ -35,9 +36,7 @@ use Rattle.bv_run.specs.Outcomes.{Came}
 use Rattle.bv_run.specs.Reports.{Answer, NotBegun, OutOfMemory, Done}
 use Rattle.bv_run.specs.Runs.{Went}
 use Rattle.bv_run.specs.Told.{HoldsSince}
-
-if_some : {A : Type 0} (P : A → Type 0) (o : Option A) (x : A) → o ≡ Some x → IfSome o P → P x
-if_some {A} P o x is h = let Q : Option A → Type 0 = λ y. IfSome y P in subst Q is h
+use Rattle.bv_run.proofs.SoundLemmas.{if_some, leaves_sound}
 
 some_and : {A : Type 0} (P : A → Type 0) (o : Option A) (x : A) → o ≡ Some x → IsSomeAnd o P → P x
 some_and {A} P o x is h = let Q : Option A → Type 0 = λ y. IsSomeAnd y P in subst Q is h
@@ -132,8 +131,19 @@ module _ (old : Seen) (i : Inspected) (claims : Claims) (first : Volume) (m : Mo
         let left = leaves_all (now_of d) events h survives.stops settled unmounted in
         record { settled = settled; map = left.is; whole = left.whole }
 
-  ran_done : whole ≡ true → Went None (Done run first.next) old new
-  ran_done full = record {
+    -- and which blobs are sound then
+    leaves_these : AreLawful lines → whole ≡ true → IsSettled d.trace → HasWholeBlobs (now_of d) → OpensWith (now_of d) h first.next → IsUnmounted h → LeavesSound (now_of d) events h
+    leaves_these lawful full settled blobs opens unmounted =
+        let ended = runs.ended full in
+        let was : last.store.began ≡ Some d = runs.later.began ∙ (m.began ∙ is) in
+        let same : (since s.opened e).base ≡ now_of d =
+        some_and (λ y. y.base ≡ now_of d) last.store.told (since s.opened e) last_told
+        (if_some (λ x. IsSomeAnd last.store.told (λ y. y.base ≡ now_of x)) last.store.began d was runs.later.disk) in
+        leaves_sound lines lawful last d (since s.opened e) was last_told same (runs.published full) (runs.found full) settled blobs
+        h first.next (sym runs.history_is) runs.later.next opens ended.legal ended.conform ended.unmount unmounted
+
+  ran_done : AreLawful lines → whole ≡ true → Went None (Done run first.next) old new
+  ran_done lawful full = record {
     begins = ran_begins;
     holds = subst (λ (p : ℕ × ℕ). Ended run first.next p.0 p.1) (λ k. (first_faults k, last_faults k)) (runs.ended full);
     told = λ d e is is_new premises.
@@ -145,7 +155,10 @@ module _ (old : Seen) (i : Inspected) (claims : Claims) (first : Volume) (m : Mo
           is = joined d e is is_new;
           holds = (
             record { survives = survives; legal = (runs.ended full).legal; conform = (runs.ended full).conform; unmount = (runs.ended full).unmount },
-            λ unmounted. leaves d e is is_new full survives unmounted,
+            λ unmounted. (
+              leaves d e is is_new full survives unmounted,
+              leaves_these d e is is_new lawful full premises.0 premises.1 survives.opens unmounted,
+            ),
           );
         };
   }
@@ -167,7 +180,7 @@ pub ran : (old : Seen) (i : Inspected) (claims : Claims) (first : Volume) (lines
     → Mounts old i claims first → Gives old i → RunsOver lines first result new → Came lines None result old new
 ran old i claims first lines (Ok f) new m gives r = (
   r.runs.count refl,
-  (first.next, ran_done old i claims first m gives lines f.history.history f.ends.items true r.store new r.device r.runs refl),
+  (first.next, ran_done old i claims first m gives lines f.history.history f.ends.items true r.store new r.device r.runs r.lawful refl),
 )
 ran old i claims first lines (Err refusal) new m gives r = (
   OutOfMemory (run_of lines r.history r.ends) first.next,

@@ -32,7 +32,7 @@ use Rattle.bv_run.specs.Words.{made_by}
 
 -- ---- a whole run is one that begins
 
-begins : (lines : List ScriptLine) (h : History) (s : ℕ) → Conform lines h s → Begins lines h s
+pub begins : (lines : List ScriptLine) (h : History) (s : ℕ) → Conform lines h s → Begins lines h s
 begins lines h s conform =
     (requests_of s lines, [], events_of s h.events, [], sym (append-nil (requests_of s lines)), sym (append-nil (events_of s h.events)), conform, refl)
 

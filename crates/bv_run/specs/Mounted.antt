@@ -1,6 +1,7 @@
 -- What the sessions over a mounted volume give, with the device behind it.
 use Rattle.std.specs.Prelude.{◌≡◌, List, Result, Ok, Err, true, false}
 use Rattle.spec_core.specs.History.{History}
+use Rattle.spec_script.specs.Lawful.{AreLawful}
 use Rattle.spec_script.specs.declared.line.ScriptLine.{ScriptLine}
 use Rattle.spec_session.specs.declared.end.SessionEnd.{SessionEnd}
 use Rattle.bv_device.specs.Seen.{Seen}
@@ -11,11 +12,12 @@ use Rattle.bv_serve.specs.declared.refusal.Refusal.{Refusal}
 use Rattle.bv_serve.specs.declared.refusal.Refusal.TheVariants as refusals
 use Rattle.bv_run.specs.declared.finished.Finished.{Finished}
 
--- all sessions of these lines ended over this volume, and this is its device
+-- all sessions of these lawful lines ended over this volume, and this is its device
 pub record RanWhole (lines : List ScriptLine) (first : Volume) (f : Finished) (dev : Seen) : Type 0 where
   pub store : Standing
   pub device : dev ≡ store.device
   pub runs : Runs lines first f.history.history f.ends.items true (stored_of store)
+  pub lawful : AreLawful lines
 
 -- they were cut short for want of memory, and this is its device
 pub record RanShort (lines : List ScriptLine) (first : Volume) (refusal : Refusal) (dev : Seen) : Type 0 where

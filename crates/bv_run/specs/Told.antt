@@ -7,7 +7,7 @@ use Rattle.spec_record.specs.declared.geometry.Geometry.{Geometry}
 use Rattle.spec_core.specs.History.{History}
 use Rattle.spec_crash.specs.Format.{FormatStop, IsEmptyVolume}
 use Rattle.spec_headline.specs.Run.{HasWholeBlobs}
-use Rattle.spec_headline.specs.Headline.{Headline, Survives, LeavesSettled, IsUnmounted}
+use Rattle.spec_headline.specs.Headline.{Headline, Survives, LeavesSettled, LeavesSound, IsUnmounted}
 use Rattle.bv_device.specs.Told.{Disk, now_of, disk_with}
 use Rattle.bv_run.specs.Reports.{Answer, NotBegun, OutOfMemory, Done}
 
@@ -31,14 +31,17 @@ IsOpening None d made = made ≡ d
 IsOpening (Some g) d made =
     IsMaking (Some g) d made × IsSettled made.trace × IsEmptyVolume g (now_of made)
 
--- what holds of the device's events from the sessions' disk on; a run that was refused has no event of
--- its own, and each stop leaves the blobs that there were
+-- what holds of the device's events from the sessions' disk on, and which blobs are there, whole and
+-- sound, after `unmounted`; a run that was refused has no event of its own, and each stop leaves the
+-- blobs that there were
 abbrev pub HoldsFrom : Blocks → List Event → Answer → Type 0
 HoldsFrom base events (NotBegun refusal) =
     (h : History) × (next : ℕ) × (h.events ≡ []) × Survives base events h next
 HoldsFrom base events (OutOfMemory run next) = Survives base events run.history next
 HoldsFrom base events (Done run next) =
-    Headline base events run next × (IsUnmounted run.history → LeavesSettled base events run.history)
+    Headline base events run next
+    × (IsUnmounted run.history
+    → LeavesSettled base events run.history × LeavesSound base events run.history)
 
 -- what holds from the sessions' disk on
 pub record HoldsSince (made : Option Geometry) (answer : Answer) (d e : Disk) : Type 0 where

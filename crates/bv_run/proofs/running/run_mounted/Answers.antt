@@ -10,6 +10,7 @@ returns-then-whole g c = record {
   device = c.into_device-dev.ensures;
   runs = subst (λ (p : List ScriptLine × Bool). Runs p.0 c.args.volume c.run_sessions-history.result.history.history c.run_sessions-history.result.ends.items p.1 (stored_of c.run_sessions-history.result.store))
       (λ k. (c.lines.ensures.lines k, c.if-whole.true k)) c.run_sessions-history.ensures;
+  lawful = c.lines.ensures.lawful;
 }
 
 pub returns-else-whole : goal.returns-else-whole
