@@ -1,5 +1,5 @@
 -- Why no script was read, from what reading the source says.
-use Rattle.std.proofs.Common.{◌≡◌, ℕ, ◌+◌, ◌<◌, ◌≤◌, ◌↔◌, List, [], length, Option, None, Some, Result, Ok, Err, IfSome, arith, refl, sym, ◌∙◌, subst, length-append, replicate, inl, inr, ◌⊎◌, ◌-◌}
+use Rattle.std.proofs.Common.{◌≡◌, ℕ, ◌+◌, ◌<◌, ◌≤◌, ◌↔◌, List, length, Option, None, Some, Result, Err, IfSome, arith, sym, subst, length-append, replicate, inl, inr, ◌-◌}
 use Rattle.std.proofs.lemmas.Bool.{cases_lt}
 use Rattle.std.proofs.lemmas.List.{length-replicate}
 use Rattle.std.specs.Io.KnownBytes.{Consumes}
@@ -8,7 +8,7 @@ use Rattle.bv_io.specs.declared.reading.ReadAllFault.{ReadAllFault}
 use Rattle.bv_io.specs.declared.reading.ReadAllFault.TheVariants as reading
 use Rattle.bv_io.specs.Streams.{TakesSome, taken_count}
 use Rattle.bv_serve.specs.Lines.{reading_refusal}
-use Rattle.bv_serve.specs.Runs.{Change, ReadsTooMuch, ReadFails}
+use Rattle.bv_serve.specs.Runs.{Change}
 use Rattle.bv_run.specs.Asked.{IsUnread, script_limit}
 
 -- some bytes were taken, with a length of which the count has this

@@ -1,11 +1,10 @@
 -- A run on a volume that was made first, from the run on the volume that is there.
-use Rattle.std.proofs.Common.{◌≡◌, ℕ, ◌⊎◌, inl, inr, List, [], Option, None, Some, Result, Ok, Err, refl, ap, sym, ◌∙◌, subst}
+use Rattle.std.proofs.Common.{◌≡◌, ℕ, inl, inr, List, [], Option, None, Some, Result, Ok, Err, refl, ap, sym, ◌∙◌, subst}
 use Rattle.std.specs.Prelude.{All, IfSome, IsSomeAnd}
 use Rattle.std.proofs.lemmas.List.Elements.{All-nil}
 use Rattle.spec_faults.specs.Faults.{Rose}
 use Rattle.spec_tree.specs.declared.Digest.{Digest}
 use Rattle.spec_tree.specs.declared.blob.Blob.{Blob}
-use Rattle.spec_disk.specs.Images.{IsSettled}
 use Rattle.spec_record.specs.declared.geometry.Geometry.{Geometry}
 use Rattle.spec_image.specs.Volume.{blobs, IsWhole}
 use Rattle.spec_script.specs.declared.line.ScriptLine.{ScriptLine}
@@ -25,7 +24,7 @@ use Rattle.bv_run.specs.Begun.{CannotMake, Begins, BeginsBy, IsRefusedBy, Refuse
 use Rattle.bv_run.specs.Outcomes.{Came, IsOfDevice, IsRefusalOf}
 use Rattle.bv_run.specs.Reports.{Answer, NotBegun, OutOfMemory, Done}
 use Rattle.bv_run.specs.Runs.{Holds, Went}
-use Rattle.bv_run.specs.Told.{HoldsSince, IsOpening, IsTold, Premises}
+use Rattle.bv_run.specs.Told.{HoldsSince, IsOpening, IsTold}
 
 if_some : {A : Type 0} (P : A → Type 0) (o : Option A) (x : A) → o ≡ Some x → IfSome o P → P x
 if_some {A} P o x is h = let Q : Option A → Type 0 = λ y. IfSome y P in subst Q is h

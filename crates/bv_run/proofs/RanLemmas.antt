@@ -1,18 +1,15 @@
 -- From the sessions over a mounted volume to what became of its device.
-use Rattle.std.proofs.Common.{◌≡◌, ℕ, ◌⊎◌, inl, inr, Bool, true, false, List, ◌++◌, take, drop, Option, None, Some, Result, Ok, Err, refl, ap, sym, ◌∙◌, subst}
+use Rattle.std.proofs.Common.{◌≡◌, ℕ, Bool, true, false, List, drop, Option, None, Some, Result, Ok, Err, refl, ap, sym, ◌∙◌, subst}
 use Rattle.std.specs.Prelude.{IfSome, IsSomeAnd, option_map}
 use Rattle.std.proofs.lemmas.List.{take-append-drop}
 use Rattle.spec_disk.specs.declared.event.Event.{Event}
-use Rattle.spec_disk.specs.Disk.{Blocks}
 use Rattle.spec_disk.specs.Images.{IsSettled}
-use Rattle.spec_core.specs.History.{History, log_of, opening_map}
-use Rattle.spec_core.specs.Log.{changed}
-use Rattle.spec_crash.specs.Crash.{HoldsWhole}
+use Rattle.spec_core.specs.History.{History}
 use Rattle.spec_script.specs.Lawful.{AreLawful}
 use Rattle.spec_script.specs.declared.line.ScriptLine.{ScriptLine}
 use Rattle.spec_session.specs.declared.end.SessionEnd.{SessionEnd}
 use Rattle.spec_headline.specs.Run.{Run, CutShort, Ended, HasWholeBlobs, OpensWith, run_of}
-use Rattle.spec_headline.specs.Headline.{Headline, IsUnmounted, LeavesSettled, LeavesSound, Survives}
+use Rattle.spec_headline.specs.Headline.{IsUnmounted, LeavesSettled, LeavesSound, Survives}
 use Rattle.spec_unmounted.proofs.Leaving.{leaves_all}
 use Rattle.bv_claims.specs.declared.claims.Claims.{Claims}
 use Rattle.bv_device.specs.Seen.{Seen}
@@ -23,19 +20,17 @@ use Rattle.bv_mount.specs.declared.inspected.Inspected.{Inspected}
 use Rattle.bv_mounted.specs.Mounts.{Gives, Mounts, recovered}
 use Rattle.bv_mounted.specs.Opens.{GoesOn}
 use Rattle.bv_mounted.proofs.OpensLemmas.{opens_with_its_image, survives_from_its_image}
-use Rattle.bv_sessions.specs.Runs.{IsLater, Runs}
+use Rattle.bv_sessions.specs.Runs.{Runs}
 use Rattle.bv_shared.specs.Since.{AreOfOneDisk}
 use Rattle.bv_store.specs.Stored.{Stored}
 use Rattle.bv_volume.specs.Seen.{Seen as Volume}
 use Rattle.bv_serve.specs.declared.refusal.Refusal.{Refusal}
-use Rattle.bv_serve.specs.declared.refusal.Refusal.TheVariants as refusals
 use Rattle.bv_run.specs.declared.finished.Finished.{Finished}
 use Rattle.bv_run.specs.Begun.{Begins}
-use Rattle.bv_run.specs.Mounted.{RanShort, RanWhole, RunsOver}
+use Rattle.bv_run.specs.Mounted.{RunsOver}
 use Rattle.bv_run.specs.Outcomes.{Came}
-use Rattle.bv_run.specs.Reports.{Answer, NotBegun, OutOfMemory, Done}
+use Rattle.bv_run.specs.Reports.{OutOfMemory, Done}
 use Rattle.bv_run.specs.Runs.{Went}
-use Rattle.bv_run.specs.Told.{HoldsSince}
 use Rattle.bv_run.proofs.SoundLemmas.{if_some, leaves_sound}
 
 some_and : {A : Type 0} (P : A → Type 0) (o : Option A) (x : A) → o ≡ Some x → IsSomeAnd o P → P x

@@ -1,9 +1,7 @@
 -- A run on the volume that is there, which was refused before its sessions began.
-use Rattle.std.proofs.Common.{◌≡◌, ◌⊎◌, inl, inr, ℕ, List, Option, None, Some, Result, Ok, Err, refl, ap, sym, ◌∙◌, subst}
-use Rattle.std.specs.Prelude.{IfSome, OnErr}
-use Rattle.spec_faults.specs.Faults.{Rose}
+use Rattle.std.proofs.Common.{◌≡◌, ◌⊎◌, inl, inr, List, Option, None, Some, Err, refl, ap, sym, ◌∙◌, subst}
+use Rattle.std.specs.Prelude.{IfSome}
 use Rattle.spec_disk.specs.declared.event.Event.{Event}
-use Rattle.spec_disk.specs.Disk.{Blocks}
 use Rattle.spec_disk.specs.Images.{IsSettled}
 use Rattle.spec_script.specs.declared.line.ScriptLine.{ScriptLine}
 use Rattle.spec_headline.specs.Headline.{Survives}
@@ -19,14 +17,11 @@ use Rattle.bv_mount.specs.Inspects.{RefusesMount}
 use Rattle.bv_mount.specs.Reports.{mount_reported_by}
 use Rattle.bv_mounted.specs.Mounts.{Gives, Refused, history_of}
 use Rattle.bv_mounted.proofs.OpensLemmas.{refused_mounts_survive}
-use Rattle.bv_serve.specs.declared.refusal.Refusal.{Refusal}
 use Rattle.bv_serve.specs.declared.refusal.Refusal.TheVariants as refusals
 use Rattle.bv_serve.specs.Lines.{mount_refusal}
-use Rattle.bv_run.specs.declared.finished.Finished.{Finished}
 use Rattle.bv_run.specs.Begun.{IsRefusedBy}
 use Rattle.bv_run.specs.Outcomes.{Came, IsOfDevice}
 use Rattle.bv_run.specs.Reports.{NotBegun}
-use Rattle.bv_run.specs.Runs.{Went}
 use Rattle.bv_run.specs.Told.{IsTold}
 
 -- a run that only read, and reported no fault, leaves what is seen of the device

@@ -1,19 +1,17 @@
 -- From the parts of a run to its clause.
-use Rattle.std.proofs.Common.{◌≡◌, ◌⊎◌, inl, inr, ℕ, ◌+◌, ◌<◌, ◌≤◌, List, [], ◌++◌, length, Option, None, Some, Result, Ok, Err, arith, refl, ap, sym, ◌∙◌, subst}
+use Rattle.std.proofs.Common.{◌≡◌, ◌⊎◌, inl, inr, ℕ, List, [], Option, Some, Ok, Err, arith, refl, ap, sym, ◌∙◌, subst}
 use Rattle.std.proofs.lemmas.List.{append-nil}
 use Rattle.spec_record.specs.declared.geometry.Geometry.{Geometry}
-use Rattle.spec_core.specs.declared.event.CoreEvent.{CoreEvent}
 use Rattle.spec_core.specs.History.{History}
 use Rattle.spec_script.specs.declared.line.ScriptLine.{ScriptLine}
 use Rattle.spec_script.specs.Lawful.{AreLawful}
-use Rattle.spec_session.specs.Conform.{Begins, Conform, DoLines, Request, events_of, requests_of}
+use Rattle.spec_session.specs.Conform.{Begins, Conform, events_of, requests_of}
 use Rattle.spec_session.specs.Text.{TellsRoots}
 use Rattle.spec_session.specs.declared.result.LineResult.{LineResult}
 use Rattle.spec_served.specs.Served.{Served, ServedSome}
 use Rattle.spec_orderly.proofs.Naming.{told_all}
 use Rattle.spec_headline.specs.Run.{Run, CutShort, Ended, run_of}
 use Rattle.bv_device.specs.Seen.{Seen}
-use Rattle.bv_device.specs.Told.{Disk}
 use Rattle.bv_serve.specs.declared.refusal.Refusal.{Refusal}
 use Rattle.bv_serve.specs.declared.refusal.Refusal.TheVariants as refusals
 use Rattle.bv_serve.specs.declared.status.Status.{Status}
@@ -24,10 +22,9 @@ use Rattle.bv_run.specs.declared.form.Form.{Form}
 use Rattle.bv_run.specs.declared.form.Form.TheVariants.{Script, Fresh, Demo}
 use Rattle.bv_run.specs.Asked.{IsAsked, IsRefusedAt, IsUnasked}
 use Rattle.bv_run.specs.Begun.{IsRefusedBy}
-use Rattle.bv_run.specs.Outcomes.{Came, IsOfDevice, IsRefusalOf}
-use Rattle.bv_run.specs.Reports.{Answer, NotBegun, OutOfMemory, Done, ReportsRefusal, ReportsRun, printed}
-use Rattle.bv_run.specs.Runs.{Holds, RunsScript, Went}
-use Rattle.bv_run.specs.Told.{HoldsSince, IsTold, Premises}
+use Rattle.bv_run.specs.Outcomes.{Came, IsOfDevice}
+use Rattle.bv_run.specs.Reports.{NotBegun, OutOfMemory, Done, ReportsRefusal, ReportsRun, printed}
+use Rattle.bv_run.specs.Runs.{RunsScript, Went}
 use Rattle.bv_run.specs.Words.{made_by}
 
 -- ---- a whole run is one that begins

@@ -35,7 +35,7 @@ use Rattle.spec_crash.specs.Crash.{HoldsWhole}
 use Rattle.spec_crash.specs.Timing.{LastHas}
 use Rattle.spec_script.specs.Lawful.{AreLawful}
 use Rattle.spec_script.specs.declared.line.ScriptLine.{ScriptLine}
-use Rattle.spec_session.specs.Conform.{Begins, Conform}
+use Rattle.spec_session.specs.Conform.{Conform}
 use Rattle.spec_served.specs.Adds.{AreByLine}
 use Rattle.spec_served.specs.Places.{publisher}
 use Rattle.spec_seen.proofs.ByLineLemmas.{lines_add_once}

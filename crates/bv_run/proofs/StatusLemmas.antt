@@ -1,5 +1,5 @@
 -- The status of a run, from tests on its history and its ends.
-use Rattle.std.proofs.Common.{◌≡◌, ℕ, zero, suc, ◌+◌, ◌<◌, ◌≤◌, ◌↔◌, ◌⊎◌, inl, inr, Bool, true, false, ◌||◌, List, [], ◌∷◌, length, Option, None, Some, Contains, slice_get, arith, refl, ap, sym, ◌∙◌, subst}
+use Rattle.std.proofs.Common.{◌≡◌, ℕ, zero, suc, ◌<◌, ◌↔◌, ◌⊎◌, inl, inr, Bool, true, false, ◌||◌, List, [], ◌∷◌, length, Contains, arith, refl, ap, sym, ◌∙◌, subst}
 use Rattle.std.specs.List.{list_any, slice_index_or}
 use Rattle.spec_core.specs.declared.event.CoreEvent.{CoreEvent}
 use Rattle.spec_core.specs.declared.reply.Reply.{Reply}
@@ -9,9 +9,9 @@ use Rattle.spec_script.specs.declared.line.ScriptLine.{ScriptLine}
 use Rattle.spec_session.specs.declared.end.SessionEnd.{SessionEnd}
 use Rattle.spec_session.specs.declared.result.LineResult.{LineResult}
 use Rattle.spec_session.specs.declared.result.LineResult.TheVariants as results
-use Rattle.spec_session.specs.Text.{results_in, results_of}
+use Rattle.spec_session.specs.Text.{results_of}
 use Rattle.spec_window.specs.declared.mismatch.Mismatch.{Mismatch}
-use Rattle.spec_headline.specs.Run.{Run, MetFault, MetMismatch, run_of}
+use Rattle.spec_headline.specs.Run.{MetFault, MetMismatch, run_of}
 use Rattle.bv_run.specs.Reports.{has_mismatch, is_fault, is_mismatch}
 
 -- ---- lists of which an element passes a test

@@ -1,5 +1,5 @@
 -- Words and the written forms of the commands that run sessions.
-use Rattle.std.proofs.Common.{◌≡◌, ℕ, zero, suc, ◌<◌, ◌≤◌, List, [], ◌∷◌, length, map, get_or, arith, ap, refl, sym, ◌∙◌, codes, decimal}
+use Rattle.std.proofs.Common.{◌≡◌, ℕ, zero, suc, ◌<◌, ◌≤◌, List, [], ◌∷◌, length, map, get_or, arith, ap, refl, sym, ◌∙◌, codes}
 use Rattle.std.proofs.lemmas.Fmt.{decimal_injective}
 use Rattle.spec_record.specs.declared.geometry.Geometry.{Geometry}
 use Rattle.spec_record.specs.Tests.{IsBetween}

@@ -9,7 +9,7 @@ use Rattle.bv_serve.specs.declared.refusal.Refusal.{Refusal}
 use Rattle.bv_serve.specs.declared.refusal.Refusal.TheVariants as refusals
 use Rattle.bv_serve.specs.Runs.{Change, LeavesAlone, ReadsAll, ReadsTooMuch, ReadFails}
 use Rattle.bv_run.specs.declared.form.Form.{Form}
-use Rattle.bv_run.specs.declared.form.Form.TheVariants.{Script, Fresh, Demo}
+use Rattle.bv_run.specs.declared.form.Form.TheVariants.{Demo}
 use Rattle.bv_run.specs.Reports.{Answer, NotBegun, OutOfMemory, Done}
 
 -- the most bytes of a script (this project's profile)

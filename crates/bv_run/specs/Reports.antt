@@ -16,7 +16,7 @@ use Rattle.bv_serve.specs.declared.status.Status.TheVariants as status
 use Rattle.bv_serve.specs.Lines.{refusal_line, refusal_status}
 use Rattle.bv_serve.specs.Runs.{Change, Prints, PrintsAll, PrintsPart}
 use Rattle.bv_run.specs.declared.form.Form.{Form}
-use Rattle.bv_run.specs.declared.form.Form.TheVariants.{Script, Fresh, Demo}
+use Rattle.bv_run.specs.declared.form.Form.TheVariants.{Demo}
 
 -- How a run came out. The number is that of the volume's next entry as the sessions began.
 pub data Answer : Type 0 where

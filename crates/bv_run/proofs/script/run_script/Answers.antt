@@ -1,4 +1,4 @@
-use Rattle.std.proofs.Common.{◌⊎◌, List, Option, Result, Ok, refl, subst, sym, ◌∙◌}
+use Rattle.std.proofs.Common.{◌⊎◌, List, Option, Result, Ok, refl, subst}
 use Rattle.spec_record.specs.declared.geometry.Geometry.{Geometry}
 use Rattle.spec_session.specs.declared.end.SessionEnd.{SessionEnd}
 use Rattle.spec_headline.specs.Run.{run_of}
@@ -8,7 +8,6 @@ use Rattle.bv_run.specs.Reports.{ReportsRefusal, ReportsRun, printed}
 use Rattle.bv_serve.specs.Runs.{change}
 use Rattle.bv_run.specs.declared.finished.Finished.{Finished}
 use Rattle.bv_run.specs.Outcomes.{Came}
-use Rattle.bv_run.specs.Words.{made_by}
 use Rattle.bv_run.proofs.ScriptLemmas.{runs_ended, runs_unasked, tells_roots}
 use Rattle.bv_run.proofs.script.run_script.Goals as goal
 
