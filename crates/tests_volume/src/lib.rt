@@ -9,3 +9,5 @@ mod device;
 mod scripts;
 #[cfg(test)]
 mod side_by_side;
+#[cfg(test)]
+mod stops;
