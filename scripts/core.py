@@ -42,6 +42,7 @@ class Volume:
         self.version, self.blocks, self.nodes = version, blocks, nodes
         self.meta = 1 + -(-blocks // 65536) + nodes // 128
         self.map = dict(blobs)
+        self.opening = set(blobs)  # those of the mount that were not purged since
         self.next = next_number
         self.log = []  # (root, None) for a purge, (root, (size, version)) for a publication
         self.undurable = 0  # blocks of the purges that no sync has made durable
@@ -49,7 +50,7 @@ class Volume:
         self.leaving = set()
         self.queue = []
         self.adds = {}  # root to size, session and whether it is admitted
-        self.known = {}  # the windows that the reader of a slot knows
+        self.known = {}  # the windows that the reader of a slot knows; None after an open that failed
         self.kept = {}  # those of the last 64 closed roots, the one kept last at the end
 
     def present(self):
@@ -73,6 +74,7 @@ class Volume:
     def flush(self):
         for root in self.queue:
             size, version = self.map.pop(root)
+            self.opening.discard(root)
             self.log.append((root, None))
             self.undurable += need(version, size)
         self.queue = []
@@ -160,7 +162,7 @@ class Volume:
             return "bad-slot"
         root = self.slots.pop((session, slot))
         known = self.known.pop((session, slot))
-        if self.is_present(root):
+        if self.is_present(root) and known is not None:
             self.kept.pop(root, None)
             self.kept[root] = known
             if len(self.kept) > 64:

@@ -27,10 +27,12 @@ def calls_of(act, meta):
 
 
 class Run:
-    """A run of a script's lines on a volume. `known_words` has a data word for each root."""
+    """A run of a script's lines on a volume. `known_words` has a data word for each root; `stored`,
+    where it is given, what the file had at the mount."""
 
-    def __init__(self, volume, lines, known_words):
+    def __init__(self, volume, lines, known_words, stored):
         self.volume, self.lines, self.known_words = volume, lines, known_words
+        self.stored, self.mismatches = stored, 0
         for line in lines:
             if line.command == "add":
                 known_words[root_of(line.word)] = line.word
@@ -53,12 +55,19 @@ class Run:
         return (yield f"settle {root}")
 
     def fetches(self, line, first, last):
-        """The windows of a range that the slot's reader doesn't know."""
+        """Fetches the windows of a range that the slot's reader doesn't know, up to the first that
+        doesn't verify. Gives its mismatch."""
         known = self.volume.known[line.session, str(line.slot)]
+        root = self.held(line)[0]
         for window in range(first, last + 1):
             if window not in known:
                 yield f"fetch {line.slot} {window}"
+                if root in self.volume.opening and self.stored:
+                    if mismatch := self.stored.mismatch(root, window):
+                        self.mismatches += 1
+                        return mismatch
                 known.add(window)
+        return None
 
     def held(self, line):
         root = self.volume.slots[line.session, str(line.slot)]
@@ -68,7 +77,10 @@ class Run:
         reply = yield self.printed(line)
         if reply.startswith("opened"):
             last = windows(self.held(line)[1]) - 1
-            yield from self.fetches(line, last, last)
+            if mismatch := (yield from self.fetches(line, last, last)):
+                self.volume.known[line.session, str(line.slot)] = None
+                yield f"close {line.slot}"
+                return mismatch
         return reply
 
     def read(self, line):
@@ -79,7 +91,8 @@ class Run:
         first, end = min(line.off, size), min(line.off + line.len, size)
         if first == end:
             return "bytes 0"
-        yield from self.fetches(line, first // WINDOW, (end - 1) // WINDOW)
+        if mismatch := (yield from self.fetches(line, first // WINDOW, (end - 1) // WINDOW)):
+            return mismatch
         return f"bytes {end - first} {content(self.known_words[root])[first:end].hex()}"
 
     def scan(self, line):
@@ -87,8 +100,8 @@ class Run:
         if reply != "reading":
             return reply
         size = self.held(line)[1]
-        yield from self.fetches(line, 0, windows(size) - 1)
-        return f"whole {size}"
+        mismatch = yield from self.fetches(line, 0, windows(size) - 1)
+        return mismatch or f"whole {size}"
 
     def list(self, line):
         reply = yield "list"
@@ -148,10 +161,10 @@ def judge_calls(act, reply, rise, meta):
         raise Wrong(f"{act} makes {rise} device calls")
 
 
-def judge(volume, lines, text, known_words, calls=0):
+def judge(volume, lines, text, known_words, calls=0, stored=None):
     """Follows the history event by event; `calls` is None where a recovery may have made some.
-    Gives the replies that were seen, each with its event."""
-    run = Run(volume, lines, known_words)
+    Gives the replies that were seen, each with its event, and how many lines met a mismatch."""
+    run = Run(volume, lines, known_words, stored)
     sessions, history = parts(text)
     numbers = sorted({line.session for line in lines})
     if [head for head, _ in sessions] != [f"session {number}" for number in numbers]:
@@ -180,7 +193,7 @@ def judge(volume, lines, text, known_words, calls=0):
             raise Wrong(f"event {shown(row)}: {wrong}") from None
     if not history or seen[-1][0] != "unmount":
         raise Wrong("the history doesn't end with the unmount")
-    return seen
+    return seen, run.mismatches
 
 
 def event(volume, found, words, reply, waited, is_last):

@@ -122,9 +122,15 @@ def one_session(rng, words):
     return ("\n".join(rows) + "\n").encode()
 
 
-def moment(rng, length, most):
-    """When a run is killed: after so many seconds, or once it has made so many writes."""
-    return (0, rng.randrange(most)) if rng.randrange(3) else (rng.uniform(0.001, length), 0)
+def moment(rng, length, formatting, course):
+    """When a run is killed: after so many seconds, or once it has made so many writes, any number or
+    one about a settle's."""
+    kind = rng.randrange(3)
+    if kind == 0:
+        return rng.uniform(0.001, length), 0
+    if kind == 1 or not course.settles:
+        return 0, rng.randrange(formatting + course.ends[-1][0] + 1)
+    return 0, formatting + rng.choice(course.settles) + rng.randrange(-2, 4)
 
 
 class Course:
@@ -135,6 +141,7 @@ class Course:
         self.maps = [as_list(volume.map)]  # after each event
         self.ends = [(0, 0)]  # the least and the most writes by the end of each event
         self.synced = [0]  # the last event whose changes are durable, by the end of each event
+        self.settles = []  # the least writes before each settle
         before = 0
         for count, row in enumerate(parts(text)[1], 1):
             event, calls = row.rsplit(" @", 1)
@@ -142,6 +149,7 @@ class Course:
             self.step(volume, int(session), words)
             least, most = self.ends[-1]
             syncs = SYNCS.get(words[0], (0, 0))
+            self.settles += [least] if words[0] == "settle" else []
             rise, before = int(calls) - before, int(calls)
             self.ends.append((least + max(0, rise - syncs[1]), most + rise - min(rise, syncs[0])))
             self.maps.append(as_list(volume.map))
@@ -242,11 +250,11 @@ def tried(number, path, kills, seen):
         script = one_session(rng, disk.words)
         _, text = disk.judged(words, script)
         course = Course(disk, text)
-        length, most = disk.length, disk.formatting(is_fresh) + course.ends[-1][0]
+        length = disk.length
         for _ in range(kills):
             path.write_bytes(begun)
             disk.blobs, disk.text = dict(opening), ""
-            writes, ended = disk.killed(words, script, *moment(rng, length, most))
+            writes, ended = disk.killed(words, script, *moment(rng, length, disk.formatting(is_fresh), course))
             disk.left = path.read_bytes()
             seen["kills"] += 1
             if not after_kill(disk, course, writes, is_fresh, ended, seen):

@@ -5,7 +5,8 @@ Each volume is made and then has up to five scripts run on it, lawful ones of on
 and changed ones. What is printed is judged by `history.py` and `script_lines.py`, which share no code
 with the program: the history is legal, each session's lines are there in order with the events that
 they may make, each reply is that of its events, and what is read has the right bytes. After each run
-`list` and `check` agree with the log. A refused script leaves the file as it was. How threads
+`list` and `check` agree with the log, and the file has these blobs. Bytes of blobs are changed now and
+then: each read of them then has its mismatch. A refused script leaves the file as it was. How threads
 interleave isn't fixed by the seed: of a wrong answer the file before the run, the script and the text
 are kept in `out/random_scripts`. It runs outside the gate."""
 import pathlib
@@ -20,10 +21,12 @@ import script_words
 from core import LAST_NUMBER, Volume, Wrong
 from history import judge
 from script_lines import MOST_BYTES, Fault, parse, root_of
+from stored import Stored
 from volume import BLOCK, info_block
 
 SEED = 20261201
 LIMIT = 60
+MOST_READ = 2000  # blocks of a file that is read and compared after each run
 KEPT = built.TOP / "out/random_scripts"
 
 
@@ -48,7 +51,8 @@ class Disk:
         if self.is_full_of_nodes:
             self.words = script_words.small_words(rng, nodes + rng.randrange(4))
         self.known_words = {root_of(word): word for word in self.words}
-        self.blobs, self.next, self.calls = {}, 1, 0
+        self.blobs, self.next, self.calls, self.stored = {}, 1, 0, None
+        self.is_damaged = False
 
     def run(self, *words, script=b""):
         """A command on the file, where the words name no other device."""
@@ -105,23 +109,52 @@ class Disk:
         if words[0].startswith("mem:"):
             self.expect("a script on no volume", (status, text), (6, "volume: magic\n"))
             return [("refused", "magic")]
-        self.expect("status", status, 0)
         volume = Volume(self.version, *self.counts[:2], self.blobs, self.next)
-        seen = judge(volume, lines, text, self.known_words, self.calls)
-        is_whole = seen[-1][1] == "unmounted"
-        self.blobs, self.next, self.calls = volume.map, volume.next, 0 if is_whole else None
-        self.judge_disk(is_whole)
-        return seen
+        seen, mismatches = judge(volume, lines, text, self.known_words, self.calls, self.stored)
+        self.expect("status", status, 8 if mismatches else 0)
+        is_unmounted = seen[-1][1] == "unmounted"
+        self.blobs, self.next = volume.map, volume.next
+        self.calls = 0 if is_unmounted else None
+        if not is_unmounted and self.is_damaged:
+            self.expect("status of recover", self.run("recover")[0], 0)
+            self.calls = 0
+        self.stored = None
+        if self.calls == 0 and self.total < MOST_READ:
+            self.stored = Stored(self.path.read_bytes())
+            kept = {root: blob[:2] for root, blob in self.stored.blobs.items()}
+            self.expect("the blobs of the file", kept, self.blobs)
+        self.judge_disk(is_unmounted, volume.opening)
+        return seen + [("line", "mismatch")] * mismatches
 
-    def judge_disk(self, is_unmounted):
+    def judge_disk(self, is_unmounted, old):
+        """What `list` and `check` say. Only an old blob can have been damaged."""
         sizes = sorted((root, size) for root, (size, _) in self.blobs.items())
         listed = "".join(f"{root} {size}\n" for root, size in sizes)
         self.expect("list", self.run("list"), (0, listed))
+        damaged = [root for root, _ in sizes if self.stored and not self.stored.is_whole(root)]
+        self.expect("damaged blobs that are new", [root for root in damaged if root not in old], [])
+        if damaged:
+            report = "".join(f"damaged {root}\n" for root in damaged) + f"faults {len(damaged)}\n"
+            self.expect("check", self.run("check"), (8, report))
+            return
         status, report = self.run("check")
         head = f"check: clean\nblobs {len(sizes)}\nbytes {sum(size for _, size in sizes)}\nstale "
         self.expect("check", (status, report[: len(head)]), (0, head))
         if is_unmounted:
             self.expect("stale slots", report[len(head) :], "0\n")
+
+    def damage(self):
+        """Changes some bytes of the blobs of an unmounted volume, of their data or of their trees."""
+        places = [places for _, _, places in self.stored.blobs.values() if places]
+        if not places:
+            return
+        self.is_damaged, image = True, bytearray(self.stored.image)
+        for _ in range(self.rng.choice([1, 1, 2, 5])):
+            block = self.stored.data_at + self.rng.choice(self.rng.choice(places))
+            inside = self.rng.choice([0, 31, 32, 64, self.rng.randrange(300), self.rng.randrange(BLOCK)])
+            image[block * BLOCK + inside] ^= 1 << self.rng.randrange(8)
+        self.path.write_bytes(image)
+        self.stored = Stored(bytes(image))
 
     def between(self):
         """What may happen between two scripts."""
@@ -131,6 +164,8 @@ class Disk:
             self.version = 2
         elif kind == 1 and self.calls == 0:
             self.expect("recover", self.run("recover"), (0, "recovered 0\n"))
+        elif kind in (2, 3) and self.stored:
+            self.damage()
 
 
 def device_of(rng, script, words):
