@@ -84,7 +84,17 @@ class Disk:
                 row = b"\xa5" * 16 if kind == 1 else b"yrtnbolb" + (1).to_bytes(8, "little")
                 file.write(row * (BLOCK // 16 * self.total))
             file.truncate(self.total * BLOCK)
-        return ["fresh" if self.version == 1 else "fresh2", *map(str, self.counts)]
+        return self.fresh()
+
+    def fresh(self):
+        """The words that make a volume of another version or the same over what is there."""
+        self.fresh_version = self.rng.choice([1, 2])
+        return ["fresh" if self.fresh_version == 1 else "fresh2", *map(str, self.counts)]
+
+    def begin(self):
+        """A volume is made anew by the script that follows."""
+        self.version, self.blobs, self.next, self.calls = self.fresh_version, {}, 1, 0
+        self.stored, self.is_damaged = None, False
 
     def set_last_numbers(self):
         """Few entries are left to be written."""
@@ -193,9 +203,11 @@ def tried(number, path, seen, texts):
                 if before is not None:
                     disk.expect("a refused script changes the file", path.read_bytes() == before, True)
             script = script_words.script(rng, disk.words, disk.is_full_of_nodes and turn == 0)
+            if words[0].startswith("fresh"):
+                disk.begin()
             note(disk.script(words, script), seen, texts)
-            words = ["script"]
             disk.between()
+            words = ["script"] if rng.randrange(8) else disk.fresh()
         except (Wrong, subprocess.TimeoutExpired, ValueError, LookupError) as wrong:
             keep(number, before, script, disk.text)
             what = f"volume {number}, turn {turn}, version {disk.version} of {disk.counts}, {' '.join(words)}"

@@ -123,7 +123,9 @@ def script(rng, words, fill):
     """A lawful script of one to sixteen sessions; where it fills the nodes, it adds every word."""
     sessions = rng.sample(range(16), rng.choice([1, 1, 2, 2, 3, 4, 8, 16]))
     lines = Lines(rng, words, sessions, rng.choice(MOODS))
-    count = rng.choice([0, 1, 5, 20, 60, 60, 120, 300]) if data_total(words) < 3000000 else rng.randrange(30)
+    count = rng.randrange(30)
+    if data_total(words) < 3000000:
+        count = rng.choice([0, 1, 5, 20, 60, 60, 120, 300]) if rng.randrange(60) else 3900
     rows = [lines.one() for _ in range(count)]
     if fill:
         adds = [f"{rng.choice(sessions)} add {word}" for word in words]
