@@ -205,7 +205,9 @@ def tried(number, path, seen, texts):
             script = script_words.script(rng, disk.words, disk.is_full_of_nodes and turn == 0)
             if words[0].startswith("fresh"):
                 disk.begin()
-            note(disk.script(words, script), seen, texts)
+            kinds = disk.script(words, script)
+            disk.expect("a lawful script", kinds[0][0] == "refused", False)
+            note(kinds, seen, texts)
             disk.between()
             words = ["script"] if rng.randrange(8) else disk.fresh()
         except (Wrong, subprocess.TimeoutExpired, ValueError, LookupError) as wrong:

@@ -125,7 +125,7 @@ def script(rng, words, fill):
     lines = Lines(rng, words, sessions, rng.choice(MOODS))
     count = rng.randrange(30)
     if data_total(words) < 3000000:
-        count = rng.choice([0, 1, 5, 20, 60, 60, 120, 300]) if rng.randrange(60) else 3900
+        count = rng.choice([0, 1, 5, 20, 60, 60, 120, 300]) if rng.randrange(60) else 3800
     rows = [lines.one() for _ in range(count)]
     if fill:
         adds = [f"{rng.choice(sessions)} add {word}" for word in words]
