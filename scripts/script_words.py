@@ -1,5 +1,5 @@
 """Random scripts, lawful ones and changed ones, for the scripts that run the built program."""
-from script_lines import ALL_READS, content, data_length, root_of
+from script_lines import ALL_READS, MOST_BYTES, content, data_length, root_of
 
 EDGES = [0, 1, 2, 63, 8191, 8192, 8193, 16384, 65535, 65536, 65537, 73728, 131072, 200000]
 LARGE = [524288, 1048577, 2097152, 2097153, 4194304]
@@ -132,6 +132,8 @@ def script(rng, words, fill):
         rows = adds + rows
     for _ in range(rng.choice([0, 0, 0, 1, 3])):
         rows.insert(rng.randrange(len(rows) + 1), rng.choice(["", "# a comment", "#"]))
+    while len(rows) + sum(len(row) for row in rows) > MOST_BYTES:
+        rows.pop()
     text = "\n".join(rows) + ("\n" if rng.randrange(4) else "")
     return text.encode()
 
