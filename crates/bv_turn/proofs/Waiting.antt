@@ -1,15 +1,16 @@
 -- A ticket is drawn, and looked for: the rule holds after either step.
-use Rattle.std.proofs.Common.{◌≡◌, ◌≢◌, ℕ, ◌+◌, ◌^◌, ◌%◌, ◌<◌, ◌≤◌, inl, List, [], ◌∷◌, length, get_or, set, sym, refl, ap, ◌∙◌, ⊎_elim, arith, length-set, Option, Some, None}
+use Rattle.std.proofs.Common.{eqb, ◌≡◌, ◌≢◌, ℕ, ◌+◌, ◌^◌, ◌%◌, ◌<◌, ◌≤◌, inl, List, [], ◌∷◌, length, get_or, set, sym, refl, ap, ◌∙◌, ⊎_elim, arith, length-set, subst, Option, Some, None}
 use mathlib.Core.Logic.{dite}
 use mathlib.Core.Option.{none, some, some-injective}
 use native.Mathlib.Decide.{ℕ_discrete}
 use lib.ListN.{get_elem?}
-use Rattle.atomic_table.specs.Table.{State, step, keeps, takes, Allows}
-use Rattle.atomic_table.proofs.Lists.{set_here, set_else, one_turn}
+use prog.Atomic.{either}
+use Rattle.atomic_table.specs.Table.{State, step, keeps, takes, stepped, carried_after, Act, Valid, Allows}
+use Rattle.atomic_table.proofs.Lists.{set_here, set_else, one_turn, exchanged}
 use Rattle.bv_turn.specs.declared.view.Part.{Part}
 use Rattle.bv_turn.specs.declared.view.View.{View}
 use Rattle.bv_turn.specs.Entries.{numbered}
-use Rattle.bv_turn.specs.Kinds.{Draws, Looks}
+use Rattle.bv_turn.specs.Kinds.{Draws, DrawsExpected, Looks}
 use Rattle.bv_turn.specs.Rule.{Account, FitsPart, Fits, OfShares}
 use Rattle.bv_turn.specs.Views.{view, total, waits, sessions, counts}
 use Rattle.bv_turn.proofs.ListLemmas.{each_map, slot_cases}
@@ -85,6 +86,25 @@ module _ {T E B : Type 0} (session : E → ℕ) (seats : ℕ) (base : B) (entrie
         },
         (refl, (k, sym (ap (λ (ws : List ℕ). get_or ws 0 0) h.words), refl)),
       )
+
+  pub draws_expected : (slots id : ℕ) (me : M) (expected next : ℕ) → next ≡ (expected + 1) % 2 ^ 64 → me.0.ticket ≡ None → me.0.taken ≡ None → 0 < length me.0.parts
+      → Allows Rule slots id me 0 (λ n. either (eqb n expected) next n) (DrawsExpected (step slots 0 expected next none) me)
+  draws_expected slots id me expected next is no_ticket no_taken some_part s h wide at below =
+      let found : ℕ = get_or s.words 0 0 in
+      let Goes : ℕ → Type 0 = λ n. (w : V) × (a : Act (Option T)) × Valid s.homes me.1 a × Rule (stepped s 0 n id me.1 w a)
+      × DrawsExpected (step slots 0 expected next none) me found (w, carried_after me.1 a) in
+      let same_words : set s.words 0 found ≡ s.words = ap (λ (ws : List ℕ). set ws 0 (get_or ws 0 0)) h.words ∙ sym h.words in
+      exchanged found expected next Goes
+      (λ (hit : found ≡ expected).
+      let drawn = draws slots id me no_ticket no_taken some_part s h wide at below in
+      subst Goes (ap (λ (n : ℕ). (n + 1) % 2 ^ 64) hit ∙ sym is) (drawn.0, drawn.1, drawn.2, drawn.3, ((λ _. drawn.4), λ miss. absurd (miss hit))))
+      (λ (miss : found ≢ expected). (
+        me.0,
+        keeps,
+        tt,
+        still session seats base entries basis s 0 id me at found same_words h,
+        ((λ hit. absurd (miss hit)), λ _. refl),
+      ))
 
   pub looks : (slots id : ℕ) (me : M) (k : ℕ) → me.0.ticket ≡ Some k → me.0.taken ≡ None → me.1 ≡ []
       → Allows Rule slots id me 1 (λ n. n) (Looks session entries basis (step slots 1 0 0 none) me)

@@ -22,6 +22,11 @@ module _ {T E B : Type 0} where
       (m'.1 ≡ m.1)
       × ((k : ℕ) × (k % 2 ^ 64 ≡ found) × (m'.0 ≡ view m.0.parts (Some k) m.0.taken))
 
+  -- where the ticket is the expected one the view gains it, and else nothing changes
+  abbrev pub DrawsExpected : Step T → Me T (View E B) → ℕ → Me T (View E B) → Type 0
+  DrawsExpected st m found m' =
+      (found ≡ st.first → Draws st m found m') × (¬ (found ≡ st.first) → m' ≡ m)
+
   -- ticket and taken list are spent, and the value went home
   abbrev pub Passes : Step T → Me T (View E B) → ℕ → Me T (View E B) → Type 0
   Passes st m found m' = (m'.1 ≡ []) × (m'.0 ≡ view m.0.parts None None)

@@ -1,7 +1,7 @@
 //! What shares sleep on while they wait for their turn.
 //!
-//! A bell only ends a sleep: whether a share is served, it sees at the table. So no bell is part of
-//! the rule.
+//! A bell only ends a sleep: whether a ticket may be drawn, a share sees at the table. So no bell is
+//! part of the rule.
 
 use crate::turn::BELLS;
 use std::sync::atomic::AtomicU64;
@@ -29,16 +29,20 @@ pub(crate) fn new() -> [AtomicU64; BELLS] {
     ]
 }
 
-/// The bell of a ticket. Of the tickets that are out at one time each has another.
-pub(crate) fn of(bells: &[AtomicU64; BELLS], ticket: u64) -> &AtomicU64 {
-    &bells[(ticket % BELLS as u64) as usize]
+/// The bell of a session.
+pub(crate) fn of(bells: &[AtomicU64; BELLS], session: u32) -> &AtomicU64 {
+    &bells[session as usize % BELLS]
 }
 
-/// Wakes the share that sleeps on the bell of this ticket, if one does.
-pub(crate) fn ring(bells: &[AtomicU64; BELLS], ticket: u64) {
-    let bell = of(bells, ticket);
-    // Mostly nobody sleeps there: a look costs less than an exchange.
-    if bell.load(SeqCst) != 0 && bell.swap(0, SeqCst) != 0 {
-        bell.wake_one();
+/// Wakes one share that sleeps, if one does: the first whose bell is found, from this one on.
+pub(crate) fn ring(bells: &[AtomicU64; BELLS], first: u64) {
+    let first = (first % BELLS as u64) as usize;
+    let (behind, from) = bells.split_at(first);
+    for bell in from.iter().chain(behind) {
+        // Mostly nobody sleeps there: a look costs less than an exchange.
+        if bell.load(SeqCst) != 0 && bell.swap(0, SeqCst) != 0 {
+            bell.wake_one();
+            return;
+        }
     }
 }

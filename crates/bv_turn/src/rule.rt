@@ -27,15 +27,15 @@ impl<T: Keeps> TableRule<Option<T>, View<T::Entry, T::Basis>, About<T>> for Law<
     ghost first = { λ k. opening k.seats (T.basis k.first.value) };
 }
 
-/// A ticket is drawn.
+/// A ticket is drawn, if it is the one that the share expects.
 pub struct Draw<T> {
     marker: PhantomData<T>,
 }
 
 impl<T: Keeps> Play<Option<T>, View<T::Entry, T::Basis>> for Draw<T> {
-    ghost use Rattle.bv_turn.specs.Kinds.{Draws};
+    ghost use Rattle.bv_turn.specs.Kinds.{DrawsExpected};
 
-    ghost then = { Draws };
+    ghost then = { DrawsExpected };
 }
 
 /// A look at the ticket that is served. Where it is the seat's own, the seat takes the value.

@@ -1,5 +1,5 @@
 //! What a thread does with its share, and how a turn begins and ends.
-ghost use Rattle.std.specs.Prelude.{◌≡◌, ℕ, ◌^◌, ◌<◌, ◌≤◌, true, false, [], ◌∷◌, ◌++◌, length, map, Some, None, IfOk, IfErr, All, vec_len, vec_capacity};
+ghost use Rattle.std.specs.Prelude.{◌≡◌, ℕ, ◌^◌, ◌<◌, ◌≤◌, true, false, [], ◌∷◌, ◌++◌, length, map, Some, None, IfOk, IfErr, IfSome, All, vec_len, vec_capacity};
 ghost use Rattle.std.specs.List.{flat_map, AllByRecursion};
 ghost use Rattle.bv_turn.specs.Kinds.{Idle, Waits, Took};
 ghost use Rattle.bv_turn.specs.Rule.{Closed};
@@ -18,13 +18,13 @@ use std::snapshot::Snapshot;
 use std::sync::Wait;
 use std::sync::atomic::Ordering::SeqCst;
 
-/// The word from which each share draws its ticket.
+/// The word with the next ticket.
 const TICKET: usize = 0;
 /// The word with the ticket that is served.
 const SERVING: usize = 1;
 /// The word with the number of entries.
 const NOTES: usize = 2;
-/// How often the share that is served next looks before it sleeps.
+/// How often a share tries to draw its ticket before it sleeps.
 const LOOKS: u32 = 1_000;
 /// The slot of the value.
 const VALUE: usize = 0;
@@ -92,7 +92,7 @@ impl<T: Keeps> Turn<T> {
         ensures basis { (basis_of share.new ≡ basis_of share.old)
             × KnowsBasis share.new result.value }
     {
-        let ticket = self.draw(share);
+        let ticket = self.draw(rt, share);
         self.wait(rt, share, ticket);
         self.take(share)
     }
@@ -117,9 +117,8 @@ impl<T: Keeps> Turn<T> {
         let None = old else { unreachable!() };
         shared.store::<Note<T>>(&mut share.seat, NOTES, count);
         let served = shared.fetch_add::<Pass<T>>(&mut share.seat, SERVING, 1);
-        // The share that is served now, and the one behind it, which then looks out for its turn.
-        bells::ring(&self.bells, served.wrapping_add(1));
-        bells::ring(&self.bells, served.wrapping_add(2));
+        // Another bell is the first each time, so that no sleeper is always found last.
+        bells::ring(&self.bells, served);
     }
 
     /// The value. All shares of the turn are given back for it.
@@ -134,14 +133,63 @@ impl<T: Keeps> Turn<T> {
         self.finish(all)
     }
 
-    fn draw(&self, share: &mut Share<T>) -> u64
+    fn draw<R: Wait>(&self, rt: &R, share: &mut Share<T>) -> u64
         requires this { IsOf self.now share.old }
         requires idle { IsIdle share.old }
         ensures this { IsOf self.now share.new × (session_of share.new ≡ session_of share.old) }
         ensures drawn { Waits result share.old.seat.me.0 share.new.seat.me }
     {
+        for _ in rt.forever() {
+            if let Some(ticket) = self.draw_soon(share) {
+                return ticket;
+            }
+            let bell = bells::of(&self.bells, share.session);
+            bell.store(1, SeqCst);
+            // Whoever passes the value on from here on finds the bell set.
+            if let Some(ticket) = self.draw_now(share) {
+                // So that no ring goes to a share that is awake while another sleeps.
+                bell.store(0, SeqCst);
+                return ticket;
+            }
+            bell.park(rt, 1);
+        }
+        unreachable!()
+    }
+
+    // Tries for a while.
+    fn draw_soon(&self, share: &mut Share<T>) -> Option<u64>
+        requires this { IsOf self.now share.old }
+        requires idle { IsIdle share.old }
+        ensures this { IsOf self.now share.new × (session_of share.new ≡ session_of share.old) }
+        ensures drawn { IfSome result (λ ticket. Waits ticket share.old.seat.me.0 share.new.seat.me) }
+        ensures not { result ≡ None → share.new.seat.me ≡ share.old.seat.me }
+    {
+        for _ in 0..LOOKS {
+            if let Some(ticket) = self.draw_now(share) {
+                return Some(ticket);
+            }
+            spin_loop();
+        }
+        None
+    }
+
+    // Draws a ticket where no other is out, so that it is the one that is served.
+    fn draw_now(&self, share: &mut Share<T>) -> Option<u64>
+        requires this { IsOf self.now share.old }
+        requires idle { IsIdle share.old }
+        ensures this { IsOf self.now share.new × (session_of share.new ≡ session_of share.old) }
+        ensures drawn { IfSome result (λ ticket. Waits ticket share.old.seat.me.0 share.new.seat.me) }
+        ensures not { result ≡ None → share.new.seat.me ≡ share.old.seat.me }
+    {
         let shared = &self.table.shared;
-        shared.fetch_add::<Draw<T>>(&mut share.seat, TICKET, 1)
+        let serving = shared.peek(SERVING);
+        // A look costs less than an exchange.
+        if shared.peek(TICKET) != serving {
+            return None;
+        }
+        let next = serving.wrapping_add(1);
+        let found = shared.compare_exchange::<Draw<T>>(&mut share.seat, TICKET, serving, next);
+        if found == serving { Some(found) } else { None }
     }
 
     fn look(&self, share: &mut Share<T>, ticket: u64) -> bool
@@ -156,6 +204,7 @@ impl<T: Keeps> Turn<T> {
         serving == ticket
     }
 
+    // No ticket was out when this one was drawn: so the first look finds it served.
     fn wait<R: Wait>(&self, rt: &R, share: &mut Share<T>, ticket: u64)
         requires this { IsOf self.now share.old }
         requires waits { Waits ticket share.old.seat.me.0 share.old.seat.me }
@@ -163,38 +212,11 @@ impl<T: Keeps> Turn<T> {
         ensures took { Took T.session T.entries T.basis share.old.seat.me share.new.seat.me }
     {
         for _ in rt.forever() {
-            if self.look_out(share, ticket) {
-                return;
-            }
-            let bell = bells::of(&self.bells, ticket);
-            bell.store(1, SeqCst);
-            // Whoever passes the value on from here on finds the bell set.
             if self.look(share, ticket) {
                 return;
             }
-            bell.park(rt, 1);
         }
         unreachable!()
-    }
-
-    // Looks for a while where at most one share is to be served before this one, and once elsewhere.
-    fn look_out(&self, share: &mut Share<T>, ticket: u64) -> bool
-        requires this { IsOf self.now share.old }
-        requires waits { Waits ticket share.old.seat.me.0 share.old.seat.me }
-        ensures this { IsOf self.now share.new × (session_of share.new ≡ session_of share.old) }
-        ensures took { result ≡ true
-            → Took T.session T.entries T.basis share.old.seat.me share.new.seat.me }
-        ensures not { result ≡ false → share.new.seat.me ≡ share.old.seat.me }
-    {
-        let ahead = ticket.wrapping_sub(self.table.shared.peek(SERVING));
-        let looks = if ahead <= 1 { LOOKS } else { 1 };
-        for _ in 0..looks {
-            if self.look(share, ticket) {
-                return true;
-            }
-            spin_loop();
-        }
-        false
     }
 
     fn take(&self, share: &mut Share<T>) -> Held<T>

@@ -8,16 +8,19 @@ use atomic_table::{Seat, Table};
 use std::alloc::Global;
 use std::sync::atomic::AtomicU64;
 
-/// How many bells a turn has: as many as tickets may be out.
+/// How many bells a turn has: as many as sessions.
 pub(crate) const BELLS: usize = 16;
 
 /// A lock that serves its shares in the order of their tickets.
 ///
+/// A share draws its ticket once no other is out, so whoever comes first has the value at once, and
+/// it is never handed to a share that sleeps.
+///
 /// It has no `Drop`: its value comes out by `close` alone, which takes every share.
 pub struct Turn<T: Keeps> {
     pub(crate) table: Table<Option<T>, View<T::Entry, T::Basis>, About<T>, Law<T>, Global>,
-    /// On its bell a share sleeps whose ticket is far from being served: that of its ticket modulo
-    /// their number. A bell that isn't 0 has, or had, a sleeper. No promise rests on them.
+    /// On its session's bell a share sleeps while another has the value. A bell that isn't 0 has, or
+    /// is about to have, a sleeper. No promise rests on them.
     pub(crate) bells: [AtomicU64; BELLS],
     ghost words: { table.shared.table_id.words ≡ 3 },
     ghost slots: { table.shared.table_id.slots ≡ 1 },

@@ -1,5 +1,5 @@
 use Rattle.std.proofs.Common.{◌≡◌}
-use Rattle.bv_turn.proofs.turn.Turn.look_out.Given as goal
+use Rattle.bv_turn.proofs.turn.Turn.draw_soon.Given as goal
 
 abbrev pub invariant-loop : goal.invariant-loop
 invariant-loop g l = record {
