@@ -4,7 +4,9 @@ pub mod EntryLemmas
 pub mod FetchLemmas
 pub mod GainLemmas
 pub mod LookLemmas
+pub mod MomentLemmas
 pub mod ServeLemmas
 pub mod SinceLemmas
+pub mod StayLemmas
 pub mod ToldLemmas
 pub mod WroteLemmas

@@ -19,7 +19,9 @@ use Rattle.spec_orderly.specs.Slots.{AreMounted, is_unmount}
 use Rattle.bv_ledger.specs.Answers.{look_act}
 use Rattle.bv_ledger.specs.declared.opening.Look.{Look}
 use Rattle.bv_ledger.specs.declared.opening.Look.TheVariants as look
+use Rattle.bv_shared.specs.Moments.{Moments}
 use Rattle.bv_shared.specs.Since.{AreOfOneDisk, AreWithin, EndBy, Since}
+use Rattle.bv_shared.proofs.MomentLemmas.{HasNow, moments_by, moments_fresh}
 
 -- ---- where events ended
 
@@ -87,17 +89,25 @@ one_disk_more v w who act reply happens k =
 pub since_fresh : (o v : Seen) → o ≡ v → v.history.events ≡ [] → AreOfOneDisk v.store.began v.store.told → Since o v
 since_fresh o v is fresh disk =
     subst (λ (x : Seen). Since x v) (sym is)
-    (subst (λ (es : List CoreEvent). (v.store.faults ≤ v.store.faults) × RiseWithin v.store.faults v.store.faults (faults_of es) × AreMounted es × AreOfOneDisk v.store.began v.store.told) (sym fresh)
-    (omega arith, tt, tt, disk))
+    (subst (λ (es : List CoreEvent). (v.store.faults ≤ v.store.faults) × RiseWithin v.store.faults v.store.faults (faults_of es) × AreMounted es × AreOfOneDisk v.store.began v.store.told × Moments v) (sym fresh)
+    (omega arith, tt, tt, disk, moments_fresh v fresh))
 
-since_more : (o v w : Seen) (who : Who) (act : Act) (reply : Reply) → Happens v w who act reply → is_unmount act ≡ false → Since o v → Since o w
-since_more o v w who act reply happens one k =
-    (omega (arith, k.0, happens.faults.0), caused_more v w who act reply happens o.store.faults k.0 k.1, mounted_more v w who act reply happens one k.2, one_disk_more v w who act reply happens k.3)
+module _ (o v w : Seen) (within : AreWithin v) (who : Who) (act : Act) where
+  since_more : (reply : Reply) → Happens v w who act reply → is_unmount act ≡ false → HasNow w → Since o v → Since o w
+  since_more reply happens one now k =
+      let disk = one_disk_more v w who act reply happens k.3 in
+      (
+        omega (arith, k.0, happens.faults.0),
+        caused_more v w who act reply happens o.store.faults k.0 k.1,
+        mounted_more v w who act reply happens one k.2,
+        disk,
+        moments_by v w within who act (Some reply) happens now disk k.4,
+      )
 
--- with a reply or without
-pub since_by : (o v w : Seen) (who : Who) (act : Act) (q : Option Reply) → Does v w who act q → is_unmount act ≡ false → Since o v → Since o w
-since_by o v w who act None does one k = subst (λ (x : Seen). Since o x) (sym does) k
-since_by o v w who act (Some reply) does one k = since_more o v w who act reply does one k
+  -- with a reply or without
+  pub since_by : (q : Option Reply) → Does v w who act q → is_unmount act ≡ false → HasNow w → Since o v → Since o w
+  since_by None does one now k = subst (λ (x : Seen). Since o x) (sym does) k
+  since_by (Some reply) does one now k = since_more reply does one now k
 
 pub since_spared : (o v u : Seen) → u ≡ record v { spare = u.spare } → Since o v → Since o u
 since_spared o v u is k = subst (λ (x : Seen). Since o x) (sym is) k

@@ -6,6 +6,7 @@ use Rattle.spec_core.specs.declared.event.CoreEvent.{CoreEvent}
 use Rattle.spec_orderly.specs.Slots.{AreMounted, is_unmount}
 use Rattle.bv_device.specs.Told.{Disk, now_of}
 use Rattle.bv_volume.specs.Seen.{Seen}
+use Rattle.bv_shared.specs.Moments.{EachMoment-prop, Moments}
 
 -- each of these events ended within so many calls
 abbrev pub EndBy : ℕ → List CoreEvent → Type 0
@@ -24,13 +25,14 @@ AreOfOneDisk (Some b) None = ⊥
 AreOfOneDisk (Some b) (Some d) = d.base ≡ now_of b
 
 -- What a volume keeps since it was o: faults of its history came from the device, none of its events is
--- an unmount, and the device tells of one disk.
+-- an unmount, the device tells of one disk, and as each event ended the disk had the blobs of the map.
 abbrev pub Since : Seen → Seen → Type 0
 Since o v =
     (o.store.faults ≤ v.store.faults)
     × Caused v.history o.store.faults v.store.faults
     × AreMounted v.history.events
     × AreOfOneDisk v.store.began v.store.told
+    × Moments v
 
 -- ---- each of these facts has one proof at most
 
@@ -54,4 +56,5 @@ Since-prop o v =
     let caused = RiseWithin-prop o.store.faults v.store.faults (faults_of v.history.events) in
     let mounted = AreMounted-prop v.history.events in
     let disk = AreOfOneDisk-prop v.store.began v.store.told in
-    λ x y i. (le_prop x.0 y.0 i, caused x.1 y.1 i, mounted x.2 y.2 i, disk x.3 y.3 i)
+    let moments = EachMoment-prop v.store.began v.store.told v.history v.next in
+    λ x y i. (le_prop x.0 y.0 i, caused x.1 y.1 i, mounted x.2 y.2 i, disk x.3 y.3 i, moments x.4 y.4 i)

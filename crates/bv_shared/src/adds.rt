@@ -48,7 +48,10 @@ impl<'t, S: Store> Shared<'t, S> {
         ensures grant { IfOk result (λ p. IsGrantOf self.old.volume.space.claims p.1
             × (grant_need p.1 ≡ need_of self.old.volume.history.version size)) }
     {
-        self.volume.begin(alloc, who, root, size)
+        let volume = &mut self.volume;
+        let answer = volume.begin(alloc, who, root, size);
+        let _after = volume.history();
+        answer
     }
 
     pub(crate) fn note_admit(
@@ -75,7 +78,10 @@ impl<'t, S: Store> Shared<'t, S> {
         }) }
         ensures back { HandsBoth result begun claimed }
     {
-        self.volume.admit(alloc, who, begun, claimed)
+        let volume = &mut self.volume;
+        let answer = volume.admit(alloc, who, begun, claimed);
+        let _after = volume.history();
+        answer
     }
 
     /// Where the device tells, the put's write is the last that it has told by its end.
@@ -98,8 +104,9 @@ impl<'t, S: Store> Shared<'t, S> {
         ensures ok { OnOk result (add.new ≡ record add.old { put = add.old.put + 1 }) }
         ensures err { OnErr result (add.new ≡ add.old) }
     {
-        let answer = self.volume.put(who, add, block);
-        let _history = self.volume.history();
+        let volume = &mut self.volume;
+        let answer = volume.put(who, add, block);
+        let _after = volume.history();
         answer
     }
 
@@ -126,7 +133,10 @@ impl<'t, S: Store> Shared<'t, S> {
         ensures back { HandsBack result add }
     {
         let _history = self.volume.history();
-        self.volume.settle(alloc, who, add)
+        let volume = &mut self.volume;
+        let answer = volume.settle(alloc, who, add);
+        let _after = volume.history();
+        answer
     }
 
     pub(crate) fn note_retire_begun(&mut self, who: Who, begun: Begun, claimed: Claimed)
@@ -140,7 +150,9 @@ impl<'t, S: Store> Shared<'t, S> {
             (Retire begun.root) (Some Retired) }
     {
         let _history = self.volume.history();
-        self.volume.retire_begun(who, begun, claimed);
+        let volume = &mut self.volume;
+        volume.retire_begun(who, begun, claimed);
+        let _after = volume.history();
     }
 
     pub(crate) fn note_retire(&mut self, who: Who, add: Admitted)
@@ -152,6 +164,8 @@ impl<'t, S: Store> Shared<'t, S> {
             (Retire add.root) (Some Retired) }
     {
         let _history = self.volume.history();
-        self.volume.retire(who, add);
+        let volume = &mut self.volume;
+        volume.retire(who, add);
+        let _after = volume.history();
     }
 }

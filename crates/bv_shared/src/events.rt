@@ -53,7 +53,10 @@ impl<'t, S: Store> Shared<'t, S> {
             (entries_in self.new.volume) who (Unlink root)
             (A.unlink_reply result) }
     {
-        self.volume.unlink(alloc, who, root)
+        let volume = &mut self.volume;
+        let answer = volume.unlink(alloc, who, root);
+        let _after = volume.history();
+        answer
     }
 
     pub(crate) fn note_sync(&mut self, alloc: Global, who: Who) -> Result<(), SyncFault>
@@ -65,7 +68,10 @@ impl<'t, S: Store> Shared<'t, S> {
         ensures gains { Gains (entries_in self.old.volume)
             (entries_in self.new.volume) who Sync (sync_reply result) }
     {
-        self.volume.sync(alloc, who)
+        let volume = &mut self.volume;
+        let answer = volume.sync(alloc, who);
+        let _after = volume.history();
+        answer
     }
 
     pub(crate) fn note_open(
@@ -85,7 +91,10 @@ impl<'t, S: Store> Shared<'t, S> {
             (entries_in self.new.volume) who (Open slot root)
             (A.open_reply result) }
     {
-        self.volume.open_slot(alloc, who, slot, root)
+        let volume = &mut self.volume;
+        let answer = volume.open_slot(alloc, who, slot, root);
+        let _after = volume.history();
+        answer
     }
 
     pub(crate) fn note_close(&mut self, who: Who, slot: u32) -> Result<(), BadSlot>
@@ -98,7 +107,10 @@ impl<'t, S: Store> Shared<'t, S> {
             (entries_in self.new.volume) who (Close slot)
             (Some (A.close_reply result)) }
     {
-        self.volume.close_slot(who, slot)
+        let volume = &mut self.volume;
+        let answer = volume.close_slot(who, slot);
+        let _after = volume.history();
+        answer
     }
 
     pub(crate) fn note_look(&mut self, who: Who, slot: u32, what: Look) -> Result<Digest, BadSlot>
@@ -114,7 +126,10 @@ impl<'t, S: Store> Shared<'t, S> {
             (last_state self.old.volume.history self.old.volume.next).slots (place_of who slot)
             ≡ Some root) }
     {
-        self.volume.look(who, slot, what)
+        let volume = &mut self.volume;
+        let answer = volume.look(who, slot, what);
+        let _after = volume.history();
+        answer
     }
 
     pub(crate) fn note_list(
@@ -134,7 +149,10 @@ impl<'t, S: Store> Shared<'t, S> {
         ensures err { OnErr result (entries_in self.new.volume
             ≡ entries_in self.old.volume) }
     {
-        self.volume.list(alloc, who)
+        let volume = &mut self.volume;
+        let answer = volume.list(alloc, who);
+        let _after = volume.history();
+        answer
     }
 
     /// A window of the blob that the slot holds, which the map has.
@@ -161,8 +179,9 @@ impl<'t, S: Store> Shared<'t, S> {
         ensures counted { IfSome self.new.volume.store.told (λ d.
             length d.trace ≡ self.new.volume.store.calls) }
     {
-        let answer = self.volume.fetch(alloc, who, slot, window);
-        let _history = self.volume.history();
+        let volume = &mut self.volume;
+        let answer = volume.fetch(alloc, who, slot, window);
+        let _after = volume.history();
         answer
     }
 }

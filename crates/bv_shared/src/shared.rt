@@ -1,6 +1,7 @@
 //! The value behind the lock, and how it begins and ends.
 ghost use Rattle.std.specs.Prelude.{◌≡◌, ◌≤◌, [], IfOk, IfErr};
 ghost use Rattle.spec_core.specs.Synced.{Caused};
+ghost use Rattle.bv_shared.specs.Moments.{Moments};
 ghost use Rattle.bv_shared.specs.Since.{AreOfOneDisk, Since, Since-prop};
 
 use bv_cache::Kept;
@@ -42,13 +43,15 @@ impl<'t, S: Store> Shared<'t, S> {
         })
     }
 
-    /// The volume, with its history as it stands.
+    /// The volume, with its history as it stands. As each event ended, the disk had the blobs of the
+    /// map, while no write or sync had failed.
     pub fn into_volume(self) -> Volume<'t, S>
         ensures volume { result ≡ self.entry.volume }
         ensures caused { Caused result.history self.entry.opening.value.store.faults
             result.store.faults }
         ensures disk { AreOfOneDisk result.store.began result.store.told }
         ensures later { self.entry.opening.value.store.faults ≤ result.store.faults }
+        ensures moments { Moments result }
     {
         let Shared {
             volume,

@@ -8,3 +8,6 @@ returns-clause-disk g c = c.args.self.since.3
 
 pub returns-clause-later : goal.returns-clause-later
 returns-clause-later g c = c.args.self.since.0
+
+pub returns-clause-moments : goal.returns-clause-moments
+returns-clause-moments g c = c.args.self.since.4

@@ -13,17 +13,17 @@ begin-requires-clause-order g c = subst (λ (o : Option OwnAdd). IfSome o (λ a.
 
 pub invariant_of-self : goal.invariant_of-self
 invariant_of-self g c = record {
-  since = since_by c.args.self.now.opening.value c.args.self.now.volume c.begin.new.self c.args.who (acts.Begin c.args.root c.args.size) (A.begin_reply c.begin.result) c.begin.ensures.row refl c.args.self.now.since;
+  since = since_by c.args.self.now.opening.value c.args.self.now.volume c.begin-answer.new.self c.requires.within c.args.who (acts.Begin c.args.root c.args.size) (A.begin_reply c.begin-answer.result) c.begin-answer.ensures.row refl (c.history-after.ensures.located, c.history-after.ensures.shown, c.history-after.ensures.sound, c.history-after.ensures.contents, c.history-after.ensures.counted) c.args.self.now.since;
 }
 
 pub returns-clause-basis : goal.returns-clause-basis
-returns-clause-basis g c = basis_by c.args.self.now.volume c.begin.new.self c.args.who (acts.Begin c.args.root c.args.size) (A.begin_reply c.begin.result) c.begin.ensures.row
+returns-clause-basis g c = basis_by c.args.self.now.volume c.begin-answer.new.self c.args.who (acts.Begin c.args.root c.args.size) (A.begin_reply c.begin-answer.result) c.begin-answer.ensures.row
 
 pub returns-clause-gains : goal.returns-clause-gains
-returns-clause-gains g c = gains_by c.args.self.now.volume c.begin.new.self c.requires.within c.args.who (acts.Begin c.args.root c.args.size) (A.begin_reply c.begin.result) c.begin.ensures.row
+returns-clause-gains g c = gains_by c.args.self.now.volume c.begin-answer.new.self c.requires.within c.args.who (acts.Begin c.args.root c.args.size) (A.begin_reply c.begin-answer.result) c.begin-answer.ensures.row
 
 pub returns-clause-begun : goal.returns-clause-begun
-returns-clause-begun g c = begun_ok _ c.args.root c.args.size c.begin.result c.begin.ensures.begun
+returns-clause-begun g c = begun_ok _ c.args.root c.args.size c.begin-answer.result c.begin-answer.ensures.begun
 
 pub returns-clause-grant : goal.returns-clause-grant
-returns-clause-grant g c = grant_kept c.args.self.now.volume c.begin.new.self c.args.who (acts.Begin c.args.root c.args.size) _ c.begin.result c.begin.ensures.row c.begin.ensures.grant
+returns-clause-grant g c = grant_kept c.args.self.now.volume c.begin-answer.new.self c.args.who (acts.Begin c.args.root c.args.size) _ c.begin-answer.result c.begin-answer.ensures.row c.begin-answer.ensures.grant

@@ -7,11 +7,11 @@ use Rattle.bv_shared.proofs.shared.Shared.note_close.Goals as goal
 
 pub invariant_of-self : goal.invariant_of-self
 invariant_of-self g c = record {
-  since = since_by c.args.self.now.opening.value c.args.self.now.volume c.close_slot.new.self c.args.who (acts.Close c.args.slot) (Some (A.close_reply c.close_slot.result)) c.close_slot.ensures.row refl c.args.self.now.since;
+  since = since_by c.args.self.now.opening.value c.args.self.now.volume c.close_slot-answer.new.self c.requires.within c.args.who (acts.Close c.args.slot) (Some (A.close_reply c.close_slot-answer.result)) c.close_slot-answer.ensures.row refl (c.history-after.ensures.located, c.history-after.ensures.shown, c.history-after.ensures.sound, c.history-after.ensures.contents, c.history-after.ensures.counted) c.args.self.now.since;
 }
 
 pub returns-clause-basis : goal.returns-clause-basis
-returns-clause-basis g c = basis_by c.args.self.now.volume c.close_slot.new.self c.args.who (acts.Close c.args.slot) (Some (A.close_reply c.close_slot.result)) c.close_slot.ensures.row
+returns-clause-basis g c = basis_by c.args.self.now.volume c.close_slot-answer.new.self c.args.who (acts.Close c.args.slot) (Some (A.close_reply c.close_slot-answer.result)) c.close_slot-answer.ensures.row
 
 pub returns-clause-gains : goal.returns-clause-gains
-returns-clause-gains g c = gains_by c.args.self.now.volume c.close_slot.new.self c.requires.within c.args.who (acts.Close c.args.slot) (Some (A.close_reply c.close_slot.result)) c.close_slot.ensures.row
+returns-clause-gains g c = gains_by c.args.self.now.volume c.close_slot-answer.new.self c.requires.within c.args.who (acts.Close c.args.slot) (Some (A.close_reply c.close_slot-answer.result)) c.close_slot-answer.ensures.row

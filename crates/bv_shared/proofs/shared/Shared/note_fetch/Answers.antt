@@ -7,7 +7,7 @@ use Rattle.bv_shared.proofs.shared.Shared.note_fetch.Goals as goal
 
 pub invariant_of-self : goal.invariant_of-self
 invariant_of-self g c = record {
-  since = since_by c.args.self.now.opening.value c.args.self.now.volume c.fetch-answer.new.self c.args.who (acts.Fetch c.args.slot c.args.window) (fetch_reply c.fetch-answer.result) c.fetch-answer.ensures.row refl c.args.self.now.since;
+  since = since_by c.args.self.now.opening.value c.args.self.now.volume c.fetch-answer.new.self c.requires.within c.args.who (acts.Fetch c.args.slot c.args.window) (fetch_reply c.fetch-answer.result) c.fetch-answer.ensures.row refl (c.history-after.ensures.located, c.history-after.ensures.shown, c.history-after.ensures.sound, c.history-after.ensures.contents, c.history-after.ensures.counted) c.args.self.now.since;
 }
 
 pub returns-clause-basis : goal.returns-clause-basis

@@ -7,14 +7,14 @@ use Rattle.bv_shared.proofs.shared.Shared.note_list.Goals as goal
 
 pub invariant_of-self : goal.invariant_of-self
 invariant_of-self g c = record {
-  since = since_by c.args.self.now.opening.value c.args.self.now.volume c.list.new.self c.args.who (acts.List) (V.list_reply c.list.result) c.list.ensures.row refl c.args.self.now.since;
+  since = since_by c.args.self.now.opening.value c.args.self.now.volume c.list-answer.new.self c.requires.within c.args.who (acts.List) (V.list_reply c.list-answer.result) c.list-answer.ensures.row refl (c.history-after.ensures.located, c.history-after.ensures.shown, c.history-after.ensures.sound, c.history-after.ensures.contents, c.history-after.ensures.counted) c.args.self.now.since;
 }
 
 pub returns-clause-basis : goal.returns-clause-basis
-returns-clause-basis g c = basis_by c.args.self.now.volume c.list.new.self c.args.who (acts.List) (V.list_reply c.list.result) c.list.ensures.row
+returns-clause-basis g c = basis_by c.args.self.now.volume c.list-answer.new.self c.args.who (acts.List) (V.list_reply c.list-answer.result) c.list-answer.ensures.row
 
 pub returns-clause-ok : goal.returns-clause-ok
-returns-clause-ok g c = lists_by c.args.self.now.volume c.list.new.self c.requires.within c.args.who c.list.result c.list.ensures.row c.list.ensures.list
+returns-clause-ok g c = lists_by c.args.self.now.volume c.list-answer.new.self c.requires.within c.args.who c.list-answer.result c.list-answer.ensures.row c.list-answer.ensures.list
 
 pub returns-clause-err : goal.returns-clause-err
-returns-clause-err g c = lists_none c.args.self.now.volume c.list.new.self c.args.who c.list.result c.list.ensures.row
+returns-clause-err g c = lists_none c.args.self.now.volume c.list-answer.new.self c.args.who c.list-answer.result c.list-answer.ensures.row

@@ -11,11 +11,11 @@ settle-requires-clause-put g c = has_put c.args.self.now.opening.value c.args.se
 
 pub invariant_of-self : goal.invariant_of-self
 invariant_of-self g c = record {
-  since = since_by c.args.self.now.opening.value c.args.self.now.volume c.settle.new.self c.args.who (acts.Settle c.args.add.root) (settle_reply c.settle.result) c.settle.ensures.row refl c.args.self.now.since;
+  since = since_by c.args.self.now.opening.value c.args.self.now.volume c.settle-answer.new.self c.requires.within c.args.who (acts.Settle c.args.add.root) (settle_reply c.settle-answer.result) c.settle-answer.ensures.row refl (c.history-after.ensures.located, c.history-after.ensures.shown, c.history-after.ensures.sound, c.history-after.ensures.contents, c.history-after.ensures.counted) c.args.self.now.since;
 }
 
 pub returns-clause-basis : goal.returns-clause-basis
-returns-clause-basis g c = basis_by c.args.self.now.volume c.settle.new.self c.args.who (acts.Settle c.args.add.root) (settle_reply c.settle.result) c.settle.ensures.row
+returns-clause-basis g c = basis_by c.args.self.now.volume c.settle-answer.new.self c.args.who (acts.Settle c.args.add.root) (settle_reply c.settle-answer.result) c.settle-answer.ensures.row
 
 pub returns-clause-gains : goal.returns-clause-gains
-returns-clause-gains g c = gains_by c.args.self.now.volume c.settle.new.self c.requires.within c.args.who (acts.Settle c.args.add.root) (settle_reply c.settle.result) c.settle.ensures.row
+returns-clause-gains g c = gains_by c.args.self.now.volume c.settle-answer.new.self c.requires.within c.args.who (acts.Settle c.args.add.root) (settle_reply c.settle-answer.result) c.settle-answer.ensures.row
