@@ -1,0 +1,6 @@
+-- Lemmas on what a run takes, and on the results of one that goes well.
+pub mod Sums
+pub mod Weights
+pub mod Taking
+pub mod Going
+pub mod Results

@@ -1,0 +1,2 @@
+-- When a run goes well.
+pub mod Good
