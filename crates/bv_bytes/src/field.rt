@@ -34,7 +34,9 @@ impl<const OFF: usize, const W: usize> Field<OFF, W> {
     }
 }
 
-fn get_at(bytes: &[u8], offset: usize, width: usize) -> u64
+/// The number in `width` bytes from `offset` on.
+#[inline]
+pub(crate) fn get_at(bytes: &[u8], offset: usize, width: usize) -> u64
     requires width { width ≤ 8 }
     requires covered { offset + width ≤ length bytes.now }
     ensures value { result ≡ field bytes.now offset width }
