@@ -43,13 +43,11 @@ pub(crate) fn stored_of(payload: &Block) -> Block
     block
 }
 
-/// A payload as it was, from its flag and the stored block.
-pub(crate) fn restored_of(flag: u64, block: &Block) -> Block
-    ensures { result ≡ restored flag block.now }
+/// A payload that began with the magic, from the stored block.
+pub(crate) fn with_magic(block: &Block) -> Block
+    ensures { result ≡ restored 1 block.now }
 {
     let mut payload = *block;
-    if flag == 1 {
-        First::put(&mut payload, MAGIC);
-    }
+    First::put(&mut payload, MAGIC);
     payload
 }

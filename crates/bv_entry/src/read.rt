@@ -1,16 +1,16 @@
 //! Reads a journal entry.
-ghost use Rattle.std.specs.Prelude.{◌≡◌, ◌≤◌, ◌<◌, ◌+◌, ◌↔◌, length, take, All, IfOk, Ok, Err};
+ghost use Rattle.std.specs.Prelude.{◌≡◌, ◌≤◌, ◌<◌, ◌+◌, ◌++◌, ◌∷◌, [], ◌↔◌, length, take, All, IfOk, OnOk, Ok, Err};
 ghost use Rattle.std.specs.List.{concat};
 ghost use Rattle.spec_record.specs.declared.entry_fault.EntryFault.{EntryFault as SpecFault};
 ghost use Rattle.spec_record.specs.Field.{field, IsBlock};
 ghost use Rattle.spec_record.specs.Tests.{IsBetween, value_or_fault};
 ghost use Rattle.spec_record.specs.Crc.{crc32 as crc32_of};
 ghost use Rattle.spec_record.specs.Places.{block_in};
-ghost use Rattle.spec_record.specs.Entry.{entry_tests, entry_or_fault, is_commit, targets_in};
+ghost use Rattle.spec_record.specs.Entry.{entry_tests, entry_or_fault, is_commit, restored, targets_in};
 ghost use Rattle.spec_record.specs.Laws.{SpellsEntry};
 
 use crate::Entry;
-use crate::payload::restored_of;
+use crate::payload::with_magic;
 use crate::place::{PLACES, flag_at, target_at, wrong_place_of};
 use crate::row::{COMMIT, HEADER, MAGIC, commit_in, header_in};
 use bv_bytes::{Block, Field, crc_more, ensure, find_set};
@@ -117,10 +117,28 @@ fn targets_of(
 {
     let mut targets = Vec::with_capacity(alloc, payloads.len())?;
     for (place, block) in payloads.iter().enumerate() {
-        let payload = restored_of(flag_at(header, place), block);
-        targets.push((target_at(header, place), payload))?;
+        let target = target_at(header, place);
+        push_restored(&mut targets, target, flag_at(header, place), block)?;
     }
     Ok(targets)
+}
+
+/// Puts a target at the end, with its payload as it was. It is copied once, into its place.
+fn push_restored(
+    targets: &mut Vec<(u64, Block)>,
+    target: u64,
+    flag: u64,
+    block: &Block,
+) -> Result<(), AllocError>
+    ensures { OnOk result
+        (targets.new.items ≡ targets.old.items ++ (target, restored flag block.now) ∷ []) }
+{
+    if flag == 1 {
+        targets.push((target, with_magic(block)))?;
+    } else {
+        targets.push((target, *block))?;
+    }
+    Ok(())
 }
 
 /// Reads the entry of a number with which blocks begin, in a volume of `meta` metadata blocks. It

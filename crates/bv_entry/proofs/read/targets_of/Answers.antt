@@ -14,8 +14,8 @@ loop-place-preserved c =
     let more : targets_in header 0 (take (i + 1) payloads) ≡ targets_in header 0 (take i payloads) ++ (target_in header i, restored (flag_in header i) (get_or payloads i [])) ∷ [] =
     ap (targets_in header 0) (take_more payloads i [] (omega arith)) ∙ targets_more header 0 (take i payloads) (get_or payloads i [])
     ∙ ap (λ (p : ℕ). targets_in header 0 (take i payloads) ++ (target_in header p, restored (flag_in header p) (get_or payloads i [])) ∷ []) (omega (arith, length-take i payloads)) in
-    let pair : (c.target_at.result, c.restored_of-payload.result) ≡ (target_in header i, restored (flag_in header i) (get_or payloads i [])) = rw (c.target_at.ensures, c.restored_of-payload.ensures, c.flag_at.ensures) refl in
-    c.in_ok-push.ensures.items
-    ∙ ap (λ (ts : List (ℕ × List ℕ)). ts ++ (c.target_at.result, c.restored_of-payload.result) ∷ []) c.loop-place.invariant
+    let pair : (c.target_at-target.result, restored c.flag_at.result (get_or payloads i [])) ≡ (target_in header i, restored (flag_in header i) (get_or payloads i [])) = rw (c.target_at-target.ensures, c.flag_at.ensures) refl in
+    c.in_ok-push_restored.ensures
+    ∙ ap (λ (ts : List (ℕ × List ℕ)). ts ++ (c.target_at-target.result, restored c.flag_at.result (get_or payloads i [])) ∷ []) c.loop-place.invariant
     ∙ ap (λ (t : ℕ × List ℕ). targets_in header 0 (take i payloads) ++ t ∷ []) pair
     ∙ sym more
