@@ -30,15 +30,19 @@ events_in entries = map (λ e. e.event) entries
 abbrev pub own_events : (Entry → ℕ) → ℕ → List Entry → List CoreEvent
 own_events session s entries = events_in (entries_of session s entries)
 
--- the history that these entries are
-abbrev pub history_of : Basis → List Entry → History
-history_of basis entries = record {
+-- the history with these events on what the basis says
+abbrev pub history_by : Basis → List CoreEvent → History
+history_by basis events = record {
   opening = basis.opening;
   blocks = basis.geometry.blocks;
   nodes = basis.geometry.nodes;
   version = basis.geometry.version;
-  events = events_in entries;
+  events = events;
 }
+
+-- the history that these entries are
+abbrev pub history_of : Basis → List Entry → History
+history_of basis entries = history_by basis (events_in entries)
 
 -- exactly one entry is appended, whose event is this
 abbrev pub Notes : List Entry → List Entry → Who → Act → Reply → Type 0

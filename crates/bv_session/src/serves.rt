@@ -13,7 +13,7 @@ ghost use Rattle.bv_turn.specs.Entries.{entries_of};
 ghost use Rattle.bv_writer.specs.Blocks.{IsBlobOf};
 ghost use Rattle.bv_session.specs.Events.{own_events, history_of, Notes, NotesAs, IfRefused, IsReadFault, IsRefusal, IfDone, IfRefuses, reply_by, reply_or, IsUnderWay, IsLook, put_by};
 ghost use Rattle.bv_session.specs.Written.{Wrote, written};
-ghost use Rattle.bv_session.specs.Disk.{IsOnDisk, EachTells, EachLists};
+ghost use Rattle.bv_session.specs.Disk.{IsOnDisk, EachAfter, EachTells, EachLists};
 ghost use Rattle.bv_pager.specs.Reading.{FitsIn};
 
 use crate::entry::{Basis, Entry};
@@ -228,8 +228,7 @@ pub trait Serves: Keeps<Entry = Entry, Basis = Basis> {
             (Fetch slot window) (reply_by (λ x. Fetched) a)
             (λ e. IfDone a (λ x. IfSome
             (slot_holds slot (own_events Self.session who.session (Self.entries self.old)))
-            (λ blob. IsOnDisk (Self.basis self.old) (device_events self.new)
-            (Self.entries self.old) blob e.event x)))) }
+            (λ blob. IsOnDisk (Self.basis self.old) blob e x)))) }
         ensures done { IfOk result (λ a. IfDone a (λ x.
             IfSome (slot_holds slot (own_events Self.session who.session (Self.entries self.old)))
             (λ blob. (x.window ≡ window) × FitsIn blob.1 x))) }
@@ -268,6 +267,9 @@ pub trait Serves: Keeps<Entry = Entry, Basis = Basis> {
 
     /// A listing is what was present when its event began.
     ghost lists: { (v : Self) → EachLists (Self.basis v) (Self.entries v) };
+
+    /// An entry has the events before it.
+    ghost afters: { (v : Self) → EachAfter (Self.entries v) };
 
     /// Its faults came from the device.
     ghost caused: { (v : Self) → Caused (history_of (Self.basis v) (Self.entries v))

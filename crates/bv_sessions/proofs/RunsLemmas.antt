@@ -38,7 +38,7 @@ use Rattle.bv_sessions.specs.Runs.{IsLater, Runs}
 pub no_entries : (v w : Volume) → w ≡ v → v.history.events ≡ [] → entries_in w ≡ []
 no_entries v w is fresh =
     ap entries_in is
-    ∙ ap (entries_from (told_of v.store.began) (device_events v.store.told) (setting_of v.history) (first_state (opening_map v.history) v.next)) fresh
+    ∙ ap (entries_from (told_of v.store.began) (device_events v.store.told) (setting_of v.history) (first_state (opening_map v.history) v.next) []) fresh
 
 -- ---- a volume later in its mount
 

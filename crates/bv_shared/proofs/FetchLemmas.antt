@@ -1,7 +1,7 @@
 -- What a fetch gives, by what the volume's fetch says of the disk.
-use Rattle.std.proofs.Common.{◌≡◌, ◌<◌, ◌⊎◌, ℕ, Option, Some, None, List, [], length, map, take, take_all, refl, sym, ap, ◌∙◌, subst, arith, inl, inr}
+use Rattle.std.proofs.Common.{◌≡◌, ◌<◌, ◌⊎◌, ℕ, Option, Some, None, List, [], length, map, take, take_all, refl, sym, ap, ◌∙◌, subst, arith, inl, inr, drop, ◌++◌}
 use Rattle.std.specs.Prelude.{Result, Ok, Err, IfOk, IfSome, IsSomeAnd}
-use Rattle.std.proofs.lemmas.List.{append-nil}
+use Rattle.std.proofs.lemmas.List.{append-nil, drop_at}
 use Rattle.std.proofs.lemmas.Simd.{map-map}
 use Rattle.spec_disk.specs.Disk.{Blocks, block, now_after}
 use Rattle.spec_disk.specs.Images.{IsSettled}
@@ -35,7 +35,8 @@ use Rattle.bv_proof.specs.declared.raw.RawWindow.{RawWindow}
 use Rattle.bv_store.specs.Stored.{Grows, blocks_on}
 use Rattle.bv_session.specs.declared.serves.Answer.{Answer}
 use Rattle.bv_session.specs.declared.serves.Answer.TheVariants as answers
-use Rattle.bv_session.specs.Disk.{IsOnDisk, ReadsRight, blocks_at, record_of}
+use Rattle.bv_session.specs.Disk.{IsOnDisk, ReadsRight, blocks_at, events_since, record_of, told_after}
+use Rattle.bv_session.specs.declared.entry.Entry.{Entry}
 use Rattle.bv_session.specs.Events.{IfDone, NotesAs, reply_by}
 use Rattle.spec_window.specs.Window.{window_bytes}
 use Rattle.bv_volume.specs.Events.{Does, Happens, event_of}
@@ -48,7 +49,6 @@ use Rattle.bv_shared.specs.Answers.{answer_reply}
 use Rattle.bv_shared.specs.Entries.{basis_of, device_events, entries_in, told_of}
 use Rattle.bv_shared.specs.Since.{AreOfOneDisk, AreWithin, Since}
 use Rattle.bv_shared.proofs.GainLemmas.{entry, gains_entry}
-use Rattle.bv_shared.specs.ServeLaws.{history_is}
 use Rattle.bv_shared.proofs.SinceLemmas.{since_spared}
 
 -- ---- a fetch makes no write and no sync
@@ -66,34 +66,37 @@ silent_told (Some d) new slot w grows = grows.1 ∙ none grows.2 where
 abbrev pub Gives : Digest → Blob → RawWindow → List (List ℕ) → Type 0
 Gives root b raw blocks = (raw.bytes.items ≡ fetched_bytes (record_of root b) blocks raw.window) × (raw.path.items ≡ fetched_path (record_of root b) blocks raw.window)
 
--- what the disk then has at these places, where the device's events are these
-abbrev pub then_at : Blocks → List Event → ℕ → List ℕ → List (List ℕ)
-then_at base events calls places = blocks_at (now_after base (take calls events)) places
-
-gives_by : (g : Geometry) (places : List ℕ) (root : Digest) (b : Blob) (raw : RawWindow) (x d : Disk) (calls : ℕ) → d.base ≡ now_of x → length d.trace ≡ calls → ReadsRight (take calls d.trace) → (DeviceReads d → Holds g places b raw d)
-    → Gives root b raw (then_at (now_of x) d.trace calls (map (block_at g) places))
-gives_by g places root b raw x d calls disk counted right sees =
-    let all : take calls d.trace ≡ d.trace = take_all calls d.trace (omega (arith, counted)) in
-    let now : now_after (now_of x) (take calls d.trace) ≡ now_of d = (λ i. now_after (sym disk i) (all i)) in
-    let blocks : then_at (now_of x) d.trace calls (map (block_at g) places) ≡ blocks_on g d places = (λ i. blocks_at (now i) (map (block_at g) places)) ∙ map-map (block (now_of d)) (block_at g) places in
-    subst (Gives root b raw) (sym blocks) (sees (subst ReadsRight all right) root)
+gives_by : (g : Geometry) (places : List ℕ) (root : Digest) (b : Blob) (raw : RawWindow) (x d : Disk) → d.base ≡ now_of x → Holds g places b raw d → Gives root b raw (blocks_at (now_after (now_of x) d.trace) (map (block_at g) places))
+gives_by g places root b raw x d disk holds =
+    let now : now_after (now_of x) d.trace ≡ now_of d = (λ i. now_after (sym disk i) d.trace) in
+    let blocks : blocks_at (now_after (now_of x) d.trace) (map (block_at g) places) ≡ blocks_on g d places = (λ i. blocks_at (now i) (map (block_at g) places)) ∙ map-map (block (now_of d)) (block_at g) places in
+    subst (Gives root b raw) (sym blocks) (holds root)
 
 -- where the blob lies by a history's events
 abbrev pub lies_by : Blocks → List Event → History → Digest → List ℕ
 lies_by base events h root = blocks_by base events h.events root (publisher root None h.events)
 
+-- the window is the blob's, where these are the device's events since
+abbrev pub FromThere : Blocks → History → ℕ → Digest → RawWindow → List Event → Type 0
+FromThere base h next root raw events =
+    ReadsRight events → AreByLine [] h.events
+    → IsSomeAnd (find (last_state h next).map root) (λ y. Gives root y raw (blocks_at (now_after base events) (lies_by base events h root)))
+
 on_disk : (h : History) (next : ℕ) (g : Geometry) (places : List ℕ) (root : Digest) (b : Blob) (raw : RawWindow) (began told : Option Disk) (calls : ℕ) → AreOfOneDisk began told → IfSome told (λ d. length d.trace ≡ calls)
     → find (last_state h next).map root ≡ Some b
     → IfSome began (λ x. IsSettled x.trace → AreByLine [] h.events → IfSome told (λ d. LiesBy g x d h root places))
     → IfSome told (λ d. IfSome began (λ x. IsSettled x.trace) → DeviceReads d → Holds g places b raw d)
-    → IfSome (told_of began) (λ t. IsSettled t.trace → ReadsRight (take calls (device_events told)) → AreByLine [] h.events
-    → IsSomeAnd (find (last_state h next).map root) (λ y. Gives root y raw (then_at (now_after t.base t.trace) (device_events told) calls (lies_by (now_after t.base t.trace) (device_events told) h root))))
+    → IfSome (told_of began) (λ d. IsSomeAnd (told_after (told_of began) (device_events told) calls) (λ t. IsSettled d.trace → FromThere (now_after d.base d.trace) h next root raw (events_since d t)))
 on_disk h next g places root b raw None told calls disk counted has by sees = tt
 on_disk h next g places root b raw (Some x) None calls disk counted has by sees = absurd disk
-on_disk h next g places root b raw (Some x) (Some d) calls disk counted has by sees = λ settled right lines.
-    let there = gives_by g places root b raw x d calls disk counted right (sees settled) in
-    let here : Gives root b raw (then_at (now_of x) d.trace calls (lies_by (now_of x) d.trace h root)) = subst (λ (ps : List ℕ). Gives root b raw (then_at (now_of x) d.trace calls ps)) (by settled lines) there in
-    subst (λ (o : Option Blob). IsSomeAnd o (λ y. Gives root y raw (then_at (now_of x) d.trace calls (lies_by (now_of x) d.trace h root)))) (sym has) here
+on_disk h next g places root b raw (Some x) (Some d) calls disk counted has by sees = λ settled.
+    let all : take calls d.trace ≡ d.trace = take_all calls d.trace (omega (arith, counted)) in
+    let since : drop (length x.trace) (x.trace ++ take calls d.trace) ≡ d.trace = drop_at x.trace (take calls d.trace) (length x.trace) refl ∙ all in
+    subst (FromThere (now_of x) h next root raw) (sym since)
+    (λ right lines.
+    let there = gives_by g places root b raw x d disk (sees settled right) in
+    let here : Gives root b raw (blocks_at (now_after (now_of x) d.trace) (lies_by (now_of x) d.trace h root)) = subst (λ (ps : List ℕ). Gives root b raw (blocks_at (now_after (now_of x) d.trace) ps)) (by settled lines) there in
+    subst (λ (o : Option Blob). IsSomeAnd o (λ y. Gives root y raw (blocks_at (now_after (now_of x) d.trace) (lies_by (now_of x) d.trace h root)))) (sym has) here)
 
 -- ---- the entry of a fetch
 
@@ -141,25 +144,20 @@ module _ (o u w : Seen) (since : Since o u) (within : AreWithin u) (who : Who) (
   act = acts.Fetch slot window
 
   -- what the entry says of a window
-  abbrev pub OnDisk : RawWindow → CoreEvent → Type 0
-  OnDisk raw e = IfSome (slot_holds slot own) (λ blob. IsOnDisk (basis_of u o.store.faults) (device_events w.store.told) (entries_in u) blob e raw)
+  abbrev pub OnDisk : RawWindow → Entry → Type 0
+  OnDisk raw e = IfSome (slot_holds slot own) (λ blob. IsOnDisk (basis_of u o.store.faults) blob e raw)
 
-  holds_on_disk : IfSome w.store.told (λ d. length d.trace ≡ w.store.calls) → (raw : RawWindow) (happens : Happens u w who act replies.Fetched) → HasFetched u (place_of who slot) window raw → OnDisk raw (event_of who act replies.Fetched w.store.calls)
+  holds_on_disk : IfSome w.store.told (λ d. length d.trace ≡ w.store.calls) → (raw : RawWindow) (happens : Happens u w who act replies.Fetched) → HasFetched u (place_of who slot) window raw → OnDisk raw (entry u w within who act replies.Fetched happens)
   holds_on_disk counted raw happens fetched =
       let silent : w.store.told ≡ u.store.told = silent_told u.store.told w.store.told slot window happens.told in
       let named : slot_holds slot own ≡ Some (fetched.root, fetched.blob.size) = named_by (find (last_state u.history u.next).map fetched.root) fetched.blob (λ b. slot_holds slot own ≡ Some (fetched.root, b.size)) fetched.has (knows fetched.root fetched.holds) in
-      let e = event_of who act replies.Fetched w.store.calls in
-      let blob : Named = (fetched.root, fetched.blob.size) in
       let at = on_disk u.history u.next u.store.geometry fetched.places fetched.root fetched.blob raw u.store.began u.store.told w.store.calls since.3 (subst (λ (x : Option Disk). IfSome x (λ d. length d.trace ≡ w.store.calls)) silent counted) fetched.has fetched.by fetched.now in
-      subst (λ (n : Option Named). IfSome n (λ named. IsOnDisk (basis_of u o.store.faults) (device_events w.store.told) (entries_in u) named e raw)) (sym named)
-      (subst (λ (x : Option Disk). IsOnDisk (basis_of u o.store.faults) (device_events x) (entries_in u) blob e raw) (sym silent)
-      (subst (λ (h : History). IfSome (told_of u.store.began) (λ t. IsSettled t.trace → ReadsRight (take w.store.calls (device_events u.store.told)) → AreByLine [] h.events
-      → IsSomeAnd (find (last_state h u.next).map fetched.root) (λ y. Gives fetched.root y raw (then_at (now_after t.base t.trace) (device_events u.store.told) w.store.calls (lies_by (now_after t.base t.trace) (device_events u.store.told) h fetched.root)))))
-      (sym (history_is u o.store.faults)) at))
+      subst (λ (n : Option Named). IfSome n (λ blob. IsOnDisk (basis_of u o.store.faults) blob (entry u w within who act replies.Fetched happens) raw)) (sym named)
+      (subst (λ (x : Option Disk). IfSome (told_of u.store.began) (λ d. IsSomeAnd (told_after (told_of u.store.began) (device_events x) w.store.calls) (λ t. IsSettled d.trace → FromThere (now_after d.base d.trace) u.history u.next fetched.root raw (events_since d t)))) (sym silent) at)
 
   pub fetch_ok : {E : Type 0} (result : Result (Answer RawWindow) E) (answer : Result RawWindow FetchFault) → answer_reply (λ x. replies.Fetched) result ≡ fetch_reply answer → IfOk result (λ a. IfDone a (λ x. answer ≡ Ok x))
       → Does u w who act (fetch_reply answer) → IfOk answer (HasFetched u (place_of who slot) window) → IfSome w.store.told (λ d. length d.trace ≡ w.store.calls)
-      → IfOk result (λ a. NotesAs (entries_in u) (entries_in w) who act (reply_by (λ x. replies.Fetched) a) (λ e. IfDone a (λ x. OnDisk x e.event)))
+      → IfOk result (λ a. NotesAs (entries_in u) (entries_in w) who act (reply_by (λ x. replies.Fetched) a) (λ e. IfDone a (λ x. OnDisk x e)))
   fetch_ok (Ok (answers.Done x)) answer reply done does fetched counted =
       let happens : Happens u w who act replies.Fetched = subst (λ (r : Result RawWindow FetchFault). Does u w who act (fetch_reply r)) done does in
       let there : HasFetched u (place_of who slot) window x = subst (λ (r : Result RawWindow FetchFault). IfOk r (HasFetched u (place_of who slot) window)) done fetched in
@@ -173,9 +171,9 @@ module _ (o u w : Seen) (since : Since o u) (within : AreWithin u) (who : Who) (
 pub fetch_roomed : {E : Type 0} (o v u w : Seen) → u ≡ record v { spare = u.spare } → Since o v → AreWithin u → (who : Who) (slot window : ℕ) (own : List CoreEvent) → KnowsHeld u who slot own
     → (result : Result (Answer RawWindow) E) (answer : Result RawWindow FetchFault) → answer_reply (λ x. replies.Fetched) result ≡ fetch_reply answer → IfOk result (λ a. IfDone a (λ x. answer ≡ Ok x))
     → Does u w who (acts.Fetch slot window) (fetch_reply answer) → IfOk answer (HasFetched u (place_of who slot) window) → IfSome w.store.told (λ d. length d.trace ≡ w.store.calls)
-    → IfOk result (λ a. NotesAs (entries_in v) (entries_in w) who (acts.Fetch slot window) (reply_by (λ x. replies.Fetched) a) (λ e. IfDone a (λ x. IfSome (slot_holds slot own) (λ blob. IsOnDisk (basis_of v o.store.faults) (device_events w.store.told) (entries_in v) blob e.event x))))
+    → IfOk result (λ a. NotesAs (entries_in v) (entries_in w) who (acts.Fetch slot window) (reply_by (λ x. replies.Fetched) a) (λ e. IfDone a (λ x. IfSome (slot_holds slot own) (λ blob. IsOnDisk (basis_of v o.store.faults) blob e x))))
 fetch_roomed o v u w room since within who slot window own knows result answer reply done does fetched counted =
-    subst (λ (y : Seen). IfOk result (λ a. NotesAs (entries_in y) (entries_in w) who (acts.Fetch slot window) (reply_by (λ x. replies.Fetched) a) (λ e. IfDone a (λ x. IfSome (slot_holds slot own) (λ blob. IsOnDisk (basis_of y o.store.faults) (device_events w.store.told) (entries_in y) blob e.event x))))) room
+    subst (λ (y : Seen). IfOk result (λ a. NotesAs (entries_in y) (entries_in w) who (acts.Fetch slot window) (reply_by (λ x. replies.Fetched) a) (λ e. IfDone a (λ x. IfSome (slot_holds slot own) (λ blob. IsOnDisk (basis_of y o.store.faults) blob e x))))) room
     (fetch_ok o u w (since_spared o v u room since) within who slot window own knows result answer reply done does fetched counted)
 
 -- ---- a slot that holds a blob is no bad slot

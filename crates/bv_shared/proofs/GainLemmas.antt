@@ -34,13 +34,13 @@ use Rattle.bv_shared.proofs.EntryLemmas.{as_many, one_more, own_from, stay}
 
 -- ---- the entries so far, as the device goes on
 
-entries_grow : (told : Option Told) (g : Setting) (s : State) (o new : Option Disk) (P : Disk → List Event → Type 0) (es : List CoreEvent) → Grows o new P → IfSome o (λ d. EndBy (length d.trace) es) → entries_from told (device_events new) g s es ≡ entries_from told (device_events o) g s es
-entries_grow told g s None new P es grows k = ap (λ (x : Option Disk). entries_from told (device_events x) g s es) grows
-entries_grow told g s (Some d) new P es grows k = ap (λ (x : Option Disk). entries_from told (device_events x) g s es) grows.1 ∙ stay told g d.trace grows.0 s es k
+entries_grow : (told : Option Told) (g : Setting) (s : State) (o new : Option Disk) (P : Disk → List Event → Type 0) (past es : List CoreEvent) → Grows o new P → IfSome o (λ d. EndBy (length d.trace) es) → entries_from told (device_events new) g s past es ≡ entries_from told (device_events o) g s past es
+entries_grow told g s None new P past es grows k = ap (λ (x : Option Disk). entries_from told (device_events x) g s past es) grows
+entries_grow told g s (Some d) new P past es grows k = ap (λ (x : Option Disk). entries_from told (device_events x) g s past es) grows.1 ∙ stay told g d.trace grows.0 s past es k
 
 -- entries by the parts of a volume
 abbrev entries_by : Option Disk → Option Disk → History → ℕ → List Entry
-entries_by began told h next = entries_from (told_of began) (device_events told) (setting_of h) (first_state (opening_map h) next) h.events
+entries_by began told h next = entries_from (told_of began) (device_events told) (setting_of h) (first_state (opening_map h) next) [] h.events
 
 -- ---- one event more
 
@@ -59,14 +59,14 @@ module _ (v w : Seen) (within : AreWithin v) (who : Who) (act : Act) (reply : Re
 
   -- the entry that the event is
   abbrev pub entry : Entry
-  entry = entry_of began (device_events w.store.told) (last_state v.history v.next) event
+  entry = entry_of began (device_events w.store.told) (last_state v.history v.next) v.history.events event
 
   pub gains_entry : entries_in w ≡ entries_in v ++ entry ∷ []
   gains_entry = ap (λ (x : Option Disk). entries_by x w.store.told w.history w.next) happens.began
       ∙ ap (λ (n : ℕ). entries_by v.store.began w.store.told w.history n) happens.next
       ∙ ap (λ (h : History). entries_by v.store.began w.store.told h v.next) happens.history
-      ∙ one_more began (setting_of v.history) (device_events w.store.told) start v.history.events event
-      ∙ ap (λ (xs : List Entry). xs ++ entry ∷ []) (entries_grow began (setting_of v.history) start v.store.told w.store.told by_event v.history.events happens.told within)
+      ∙ one_more began (setting_of v.history) (device_events w.store.told) start [] v.history.events event
+      ∙ ap (λ (xs : List Entry). xs ++ entry ∷ []) (entries_grow began (setting_of v.history) start v.store.told w.store.told by_event [] v.history.events happens.told within)
 
   pub gains : Notes (entries_in v) (entries_in w) who act reply
   gains = (entry, gains_entry, refl, refl, refl)
@@ -128,8 +128,8 @@ lists_none v w who (Err e) does = ap entries_in does
 
 module _ (v : Seen) (faults : ℕ) where
   pub as_many_in : length (entries_in v) ≡ length v.history.events
-  as_many_in = as_many (told_of v.store.began) (setting_of v.history) (device_events v.store.told) (first_state (opening_map v.history) v.next) v.history.events
+  as_many_in = as_many (told_of v.store.began) (setting_of v.history) (device_events v.store.told) (first_state (opening_map v.history) v.next) [] v.history.events
 
   -- a session's own events, by its entries
   pub own_is : (s : ℕ) → own_events (λ e. e.event.who.session) s (entries_in v) ≡ events_of s v.history.events
-  own_is s = own_from (told_of v.store.began) (setting_of v.history) s (device_events v.store.told) (first_state (opening_map v.history) v.next) v.history.events
+  own_is s = own_from (told_of v.store.began) (setting_of v.history) s (device_events v.store.told) (first_state (opening_map v.history) v.next) [] v.history.events

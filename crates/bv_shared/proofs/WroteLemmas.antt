@@ -116,33 +116,33 @@ module _ (b : Told) (trace : List Event) (g : Setting) (t : ℕ) where
   abbrev byte_at : ℕ → List ℕ
   byte_at calls = bytes_of (event_at trace calls)
 
-  abbrev own_entries : State → List CoreEvent → List Entry
-  own_entries s es = entries_of (λ e. e.event.who.session) t (entries_from (Some b) trace g s es)
+  abbrev own_entries : State → List CoreEvent → List CoreEvent → List Entry
+  own_entries s past es = entries_of (λ e. e.event.who.session) t (entries_from (Some b) trace g s past es)
 
-  own_step : (own : Bool) (s : State) (e : CoreEvent) (es : List Entry) (own_es : List CoreEvent) (blocks : List (List ℕ)) (puts : List ℕ)
+  own_step : (own : Bool) (s : State) (past : List CoreEvent) (e : CoreEvent) (es : List Entry) (own_es : List CoreEvent) (blocks : List (List ℕ)) (puts : List ℕ)
       → ((bs : List (List ℕ)) (ps : List ℕ) → bs ≡ map byte_at ps → written_from bs es ≡ map byte_at (puts_from ps own_es))
       → e.calls ≤ length trace → (IsWritten e → IsSomeAnd (event_at trace e.calls) IsOkWrite) → blocks ≡ map byte_at puts
-      → written_from blocks (cond own (entry_of (Some b) trace s e ∷ es) es) ≡ map byte_at (puts_from puts (cond own (e ∷ own_es) own_es))
-  own_step true s e es own_es blocks puts rest within called is =
+      → written_from blocks (cond own (entry_of (Some b) trace s past e ∷ es) es) ≡ map byte_at (puts_from puts (cond own (e ∷ own_es) own_es))
+  own_step true s past e es own_es blocks puts rest within called is =
       rest (written_after blocks e.act e.reply (told_after (Some b) trace e.calls)) (puts_after puts e.act e.reply e.calls)
       (step_is byte_at blocks puts is e.act e.reply (told_after (Some b) trace e.calls) e.calls (λ k. told_by b trace e.calls (made_call trace e.calls (called k)) within))
-  own_step false s e es own_es blocks puts rest within called is = rest blocks puts is
+  own_step false s past e es own_es blocks puts rest within called is = rest blocks puts is
 
-  written_by : (s : State) (es : List CoreEvent) → EndBy (length trace) es → PutsAreWrites trace es → (blocks : List (List ℕ)) (puts : List ℕ) → blocks ≡ map byte_at puts
-      → written_from blocks (own_entries s es) ≡ map byte_at (puts_from puts (events_of t es))
-  written_by s [] within called blocks puts is = is
-  written_by s (e ∷ es) within called blocks puts is =
-      own_step (e.who.session == t) s e (own_entries (after g s e) es) (events_of t es) blocks puts
-      (written_by (after g s e) es within.1 called.1) within.0 called.0 is
+  written_by : (s : State) (past es : List CoreEvent) → EndBy (length trace) es → PutsAreWrites trace es → (blocks : List (List ℕ)) (puts : List ℕ) → blocks ≡ map byte_at puts
+      → written_from blocks (own_entries s past es) ≡ map byte_at (puts_from puts (events_of t es))
+  written_by s past [] within called blocks puts is = is
+  written_by s past (e ∷ es) within called blocks puts is =
+      own_step (e.who.session == t) s past e (own_entries (after g s e) (past ++ e ∷ []) es) (events_of t es) blocks puts
+      (written_by (after g s e) (past ++ e ∷ []) es within.1 called.1) within.0 called.0 is
 
 -- what an add has written by its session's entries is what the device's events wrote
 there_by : (began told : Option Disk) (g : Setting) (s : State) (t : ℕ) (es : List CoreEvent) (P : List (List ℕ) → Type 0) → AreOfOneDisk began told → IfSome told (λ d. EndBy (length d.trace) es) → IfSome told (λ d. PutsAreWrites d.trace es)
-    → IfSome (told_of began) (λ b. P (written (entries_of (λ e. e.event.who.session) t (entries_from (told_of began) (device_events told) g s es))))
+    → IfSome (told_of began) (λ b. P (written (entries_of (λ e. e.event.who.session) t (entries_from (told_of began) (device_events told) g s [] es))))
     → IfSome told (λ d. P (blocks_written d.trace (events_of t es)))
 there_by began None g s t es P disk within called k = tt
 there_by None (Some d) g s t es P disk within called k = absurd disk
 there_by (Some b) (Some d) g s t es P disk within called k =
-    subst P (written_by (record { base = b.base; trace = b.trace }) d.trace g t s es within called [] [] refl) k
+    subst P (written_by (record { base = b.base; trace = b.trace }) d.trace g t s [] es within called [] [] refl) k
 
 pub has_put : (o v : Seen) (session : ℕ) (a : Admitted) → Since o v → AreWithin v → IfSome v.store.told (λ d. PutsAreWrites d.trace v.history.events) → a.put ≡ need_of v.history.version a.size
     → IfSome (told_of v.store.began) (λ d. IsBlobOf v.history.version a.root a.size (written (entries_of (λ e. e.event.who.session) session (entries_in v))))

@@ -1,5 +1,5 @@
 -- A volume as sessions see it: what it stands on, and its events as entries.
-use Rattle.std.specs.Prelude.{◌≡◌, ℕ, List, [], ◌∷◌, Option, Some, None}
+use Rattle.std.specs.Prelude.{◌≡◌, ℕ, List, [], ◌∷◌, ◌++◌, Option, Some, None}
 use Rattle.spec_disk.specs.declared.event.Event.{Event}
 use Rattle.spec_tree.specs.declared.Digest.{Digest}
 use Rattle.spec_core.specs.History.{setting_of, opening_map, first_state}
@@ -35,19 +35,21 @@ abbrev pub listed_by : State → Act → Option (List (Digest × ℕ))
 listed_by s acts.List = Some (present_blobs s)
 listed_by s act = None
 
--- an event as an entry, where it begins in this state
-abbrev pub entry_of : Option Told → List Event → State → CoreEvent → Entry
-entry_of told device s e = record {
+-- an event as an entry, where it begins in this state, after these events
+abbrev pub entry_of : Option Told → List Event → State → List CoreEvent → CoreEvent → Entry
+entry_of told device s past e = record {
   event = e;
   told = told_after told device e.calls;
   listed = listed_by s e.act;
+  before = past;
 }
 
--- events as entries, where the first begins in this state
-abbrev pub entries_from : Option Told → List Event → Setting → State → List CoreEvent → List Entry
-entries_from told device g s [] = []
-entries_from told device g s (e ∷ es) =
-    entry_of told device s e ∷ entries_from told device g (after g s e) es
+-- events as entries, where the first begins in this state, after these events
+abbrev pub entries_from
+    : Option Told → List Event → Setting → State → List CoreEvent → List CoreEvent → List Entry
+entries_from told device g s past [] = []
+entries_from told device g s past (e ∷ es) =
+    entry_of told device s past e ∷ entries_from told device g (after g s e) (past ++ e ∷ []) es
 
 -- what a volume stands on, where the device's count of faults was this at the opening
 abbrev pub basis_of : Seen → ℕ → Basis
@@ -67,7 +69,7 @@ basis_of v faults = record {
 -- the entries of a volume
 abbrev pub entries_in : Seen → List Entry
 entries_in v = entries_from (told_of v.store.began) (device_events v.store.told)
-    (setting_of v.history) (first_state (opening_map v.history) v.next) v.history.events
+    (setting_of v.history) (first_state (opening_map v.history) v.next) [] v.history.events
 
 -- with a reply one entry is appended, whose event is this; without one, want of memory, none
 abbrev pub Gains : List Entry → List Entry → Who → Act → Option Reply → Type 0

@@ -50,6 +50,8 @@ impl<'t, S: Store> Serves for Shared<'t, S> {
 
     ghost lists = { λ v. L.lists v.volume v.opening.value.store.faults };
 
+    ghost afters = { λ v. L.afters v.volume };
+
     ghost caused = { λ v. L.caused v.opening.value v.volume v.since };
 
     fn begin(
