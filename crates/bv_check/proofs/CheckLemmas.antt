@@ -1,19 +1,18 @@
 -- The answer of a check from its parts.
-use Rattle.std.proofs.Common.{◌≡◌, ℕ, zero, suc, List, [], ◌∷◌, ◌++◌, length, map, get_or, take, drop, ◌+◌, ◌-◌, ◌<◌, ◌≤◌, Bool, true, false, cond, eqb, drop-cons, add-one, Option, None, Result, Ok, Err, refl, ap, sym, ◌∙◌, subst, arith, length-append}
-use Rattle.std.proofs.lemmas.List.{take_all, take_more, map-append, length-drop, append-nil}
+use Rattle.std.proofs.Common.{◌≡◌, ℕ, List, [], ◌∷◌, ◌++◌, length, map, get_or, take, drop, ◌+◌, ◌-◌, ◌<◌, ◌≤◌, Bool, true, false, cond, eqb, drop-cons, add-one, Result, Ok, Err, refl, ap, sym, ◌∙◌, subst, arith, length-append}
+use Rattle.std.proofs.lemmas.List.{take_all, take_more, length-drop, append-nil}
 use Rattle.std.proofs.lemmas.List.FromFn.{length-range_with_len}
 use Rattle.std.proofs.lemmas.Grind.{flat_map-append}
 use Rattle.std.specs.BTreeSet.{insert_key}
 use Rattle.std.specs.List.{range_with_len, concat}
-use Rattle.std.specs.Prelude.{IsErrAnd}
-use Rattle.spec_disk.specs.Disk.{Blocks, block}
+use Rattle.std.specs.Prelude.{IsErrAnd, MatchResult}
+use Rattle.spec_disk.specs.Disk.{Blocks}
 use Rattle.spec_tree.specs.declared.Digest.{Digest}
 use Rattle.spec_tree.specs.Order.{digest_cmp}
 use Rattle.spec_tree.specs.Tree.{need_of, data_blocks, tree_blocks_of}
 use Rattle.spec_record.specs.declared.extent.Extent.{Extent}
 use Rattle.spec_record.specs.declared.geometry.Geometry.{Geometry}
 use Rattle.spec_image.specs.Chain.{BlobRecord, lengths}
-use Rattle.spec_image.specs.Metadata.{Metadata}
 use Rattle.spec_image.specs.Stored.{blocks_of, bytes_in}
 use Rattle.spec_image.specs.WellFormed.{records_of}
 use Rattle.spec_meta.specs.Blocks.{metadata_at}
@@ -22,12 +21,9 @@ use Rattle.spec_meta.specs.declared.survey_fault.SurveyFault.{SurveyFault}
 use Rattle.spec_meta.proofs.Counting.{lengths_more as lengths_cons}
 use Rattle.bv_device.specs.Seen.{Seen}
 use Rattle.bv_device.specs.Reads.{Reads}
-use Rattle.bv_device.proofs.ReadsLemmas.{Reads-weaker, Reads-append}
-use Rattle.bv_replay.specs.declared.replay.Replay.{Replay}
 use Rattle.bv_txn.specs.Metas.{metadata_of}
 use Rattle.bv_txn.specs.declared.survey.Survey.{Survey}
 use Rattle.spec_inspect.specs.declared.open_fault.OpenFault.{OpenFault}
-use Rattle.spec_inspect.specs.declared.open_fault.OpenFault.TheVariants as opening
 use Rattle.spec_inspect.specs.Faults.{of_survey, ◌>>=◌}
 use Rattle.spec_inspect.specs.Readable.{Readable, readable, metadata_after}
 use Rattle.spec_inspect.specs.Report.{Findings, rising, damaged_in, findings_of, report_of}
@@ -113,6 +109,11 @@ pub check_stopped : (r : Result Report OpenFault) (f : OpenFault) (old new : See
     → Reads (reported r) old new (AnswersCheck r)
 check_stopped (Ok x) f old new is reads = absurd is
 check_stopped (Err y) f old new is reads = subst (λ (x : OpenFault). Reads (reported_by x) old new (λ j. Refuses (report_of j) x)) (sym is) reads
+
+pub damaged_stopped : {X : Type 0} (r : Result X OpenFault) (f : OpenFault) (old new : Seen) (P : X → Blocks → Type 0) → IsErrAnd r (λ y. y ≡ f)
+    → Reads (reported_by f) old new (λ j. IsOutside f) → Reads (reported r) old new (λ j. MatchResult r (λ x. P x j) IsOutside)
+damaged_stopped (Ok x) f old new P is reads = absurd is
+damaged_stopped (Err y) f old new P is reads = subst (λ (x : OpenFault). Reads (reported_by x) old new (λ j. IsOutside x)) (sym is) reads
 
 pub refuse_readable : (j : Blocks) (f : OpenFault) → Refuses (readable j) f → Refuses (report_of j) f
 refuse_readable j f refuses = Refuses-first (readable j) (λ o. Ok (findings_of j o)) f refuses

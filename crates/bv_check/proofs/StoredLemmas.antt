@@ -1,7 +1,7 @@
 -- The blobs of metadata are stored in lawful extents, and there are few.
-use Rattle.std.proofs.Common.{◌≡◌, ℕ, zero, suc, ◌+◌, ◌*◌, ◌≤◌, ◌<◌, List, [], ◌∷◌, ◌++◌, length, map, All, Bool, true, false, cond, eqb, leb, Result, Ok, Err, refl, ap, sym, ◌∙◌, subst, arith, length-append}
+use Rattle.std.proofs.Common.{◌≡◌, ℕ, zero, suc, ◌≤◌, List, [], ◌∷◌, ◌++◌, length, All, Bool, true, false, cond, eqb, leb, Result, Ok, Err, refl, ap, sym, ◌∙◌, subst, arith, length-append}
 use Rattle.std.proofs.lemmas.List.Elements.{All-nil, All-cons}
-use Rattle.spec_tree.specs.Tree.{need_of, data_blocks}
+use Rattle.spec_tree.specs.Tree.{need_of}
 use Rattle.spec_record.specs.declared.extent.Extent.{Extent}
 use Rattle.spec_record.specs.declared.inode.Inode.{Inode}
 use Rattle.spec_record.specs.declared.node_fault.NodeFault.{NodeFault}
@@ -9,13 +9,12 @@ use Rattle.spec_record.specs.declared.node_fault.NodeFault.TheVariants as faults
 use Rattle.spec_record.specs.declared.geometry.Geometry.{Geometry}
 use Rattle.spec_record.specs.Geometry.{IsGeometry}
 use Rattle.spec_record.specs.Extent.{IsExtent, is_extent}
-use Rattle.spec_record.specs.Tests.{is_between}
 use Rattle.spec_record.proofs.TestLemmas.{equal, at_most}
 use Rattle.spec_image.specs.Chain.{Nodes, BlobRecord, wants, lengths, check_counts, chain}
 use Rattle.spec_image.specs.Metadata.{Metadata}
 use Rattle.spec_image.specs.WellFormed.{read_of, records_below, records_of}
 use Rattle.spec_image.proofs.ChainLemmas.{AllExtents, bind_ok, chain_extents}
-use Rattle.spec_meta.proofs.Frame.{ChainRead, chain_read, wants_ok}
+use Rattle.spec_meta.proofs.Frame.{chain_read, wants_ok}
 use Rattle.spec_meta.proofs.Counting.{ranges}
 use Rattle.bv_check.specs.Checks.{IsStored, AreStored, AreSmall}
 

@@ -1,17 +1,21 @@
 //! Which blobs are damaged: their data is read, and hashed on the way.
-ghost use Rattle.std.specs.Prelude.{◌≡◌, ◌≤◌, ◌+◌, ◌<◌, ◌^◌, ◌++◌, ◌∷◌, [], ℕ, List, MatchResult, OnOk, not};
+ghost use Rattle.std.specs.Prelude.{◌≡◌, ◌≤◌, ◌+◌, ◌<◌, ◌^◌, ◌++◌, ◌∷◌, [], ℕ, List, MatchResult, OnOk};
 ghost use Rattle.std.specs.List.{range_with_len};
 ghost use Rattle.spec_disk.specs.Disk.{block};
 ghost use Rattle.spec_record.specs.Extent.{IsExtent};
 ghost use Rattle.bv_device.specs.Reads.{Reads};
-ghost use Rattle.spec_inspect.specs.Report.{is_damaged, damaged_in};
+ghost use Rattle.spec_inspect.specs.Report.{damaged_in};
 ghost use Rattle.bv_mount.specs.Opens.{IsOn, IsOutside};
 ghost use Rattle.bv_mount.specs.Reports.{reported};
-ghost use Rattle.bv_check.specs.Hashed.{IsHashing, HasTaken, plan_of};
+ghost use Rattle.spec_tree.specs.Tree.{root_of};
+ghost use Rattle.spec_image.specs.Stored.{bytes_in};
+ghost use Rattle.bv_check.specs.Hashed.{IsHashing, IsIdle, HasTaken, plan_of};
+ghost use Rattle.bv_check.specs.Last.{AreFew, damaged_of, ending_root};
 ghost use Rattle.bv_check.specs.Checks.{IsStored, AreStored, data_at};
 
 use crate::CheckFault;
-use crate::data_hasher::DataHasher;
+use crate::data_hasher::{DataHasher, Ending};
+use crate::waiting::Looked;
 use bv_device::Device;
 use bv_layout::Geometry;
 use bv_mount::read_block;
@@ -32,52 +36,80 @@ pub(crate) fn damaged<D: Device>(
         (λ j. MatchResult result (λ roots. roots.items
         ≡ damaged_in geometry.now j blobs.now) IsOutside) }
 {
-    let mut roots = Vec::new(alloc);
-    for blob in blobs {
-        look_at(dev, geometry, blob, &mut roots)?;
-    }
-    Ok(roots)
+    let mut hasher = DataHasher::new();
+    damaged_by(alloc, dev, geometry, blobs, &mut hasher)
 }
 
-/// Adds the root of a blob if it is damaged.
+/// The roots of the damaged blobs among these, whose data this hasher takes.
+fn damaged_by<D: Device>(
+    alloc: Global,
+    dev: &mut D,
+    geometry: &Geometry,
+    blobs: &[BlobRec],
+    hasher: &mut DataHasher,
+) -> Result<Vec<Digest>, CheckFault>
+    requires on { IsOn (D.seen dev.old).block_count geometry.now }
+    requires stored { AreStored geometry.now.blocks blobs.now }
+    requires idle { IsIdle hasher.old }
+    ensures { Reads (reported result) (D.seen dev.old) (D.seen dev.new)
+        (λ j. MatchResult result (λ roots. roots.items
+        ≡ damaged_in geometry.now j blobs.now) IsOutside) }
+{
+    let mut looked = Looked::new(alloc);
+    for blob in blobs {
+        look_at(dev, geometry, blob, hasher, &mut looked)?;
+    }
+    match looked.finish() {
+        Ok(roots) => Ok(roots),
+        Err(_) => Err(CheckFault::NoMemory),
+    }
+}
+
+/// Reads the bytes of a blob, and adds it to those that were looked at.
 fn look_at<D: Device>(
     dev: &mut D,
     geometry: &Geometry,
     blob: &BlobRec,
-    roots: &mut Vec<Digest>,
+    hasher: &mut DataHasher,
+    looked: &mut Looked,
 ) -> Result<(), CheckFault>
     requires on { IsOn (D.seen dev.old).block_count geometry.now }
     requires stored { IsStored geometry.now.blocks blob.now }
-    ensures { Reads (reported result) (D.seen dev.old) (D.seen dev.new)
-        (λ j. MatchResult result (λ v. roots.new.items ≡ roots.old.items
+    requires idle { IsIdle hasher.old }
+    requires few { AreFew looked.old }
+    ensures idle { OnOk result (IsIdle hasher.new) }
+    ensures few { OnOk result (AreFew looked.new) }
+    ensures reads { Reads (reported result) (D.seen dev.old) (D.seen dev.new)
+        (λ j. MatchResult result (λ v. damaged_of looked.new ≡ damaged_of looked.old
         ++ damaged_in geometry.now j (blob.now ∷ [])) IsOutside) }
 {
-    if has_its_root(dev, geometry, blob)? {
-        return Ok(());
-    }
-    match roots.push(blob.root()) {
+    let ending = ending_of(dev, geometry, blob, hasher)?;
+    match looked.add(blob.root(), ending) {
         Ok(()) => Ok(()),
         Err(_) => Err(CheckFault::NoMemory),
     }
 }
 
-/// Whether the bytes of a blob have its root.
-fn has_its_root<D: Device>(
+/// With what the bytes of a blob end.
+fn ending_of<D: Device>(
     dev: &mut D,
     geometry: &Geometry,
     blob: &BlobRec,
-) -> Result<bool, CheckFault>
+    hasher: &mut DataHasher,
+) -> Result<Ending, CheckFault>
     requires on { IsOn (D.seen dev.old).block_count geometry.now }
     requires stored { IsStored geometry.now.blocks blob.now }
-    ensures { Reads (reported result) (D.seen dev.old) (D.seen dev.new)
-        (λ j. MatchResult result
-        (λ yes. not yes ≡ is_damaged geometry.now j blob.now) IsOutside) }
+    requires idle { IsIdle hasher.old }
+    ensures idle { OnOk result (IsIdle hasher.new) }
+    ensures reads { Reads (reported result) (D.seen dev.old) (D.seen dev.new)
+        (λ j. MatchResult result (λ ending. ending_root ending
+        ≡ root_of (bytes_in geometry.now j blob.now)) IsOutside) }
 {
-    let mut hasher = DataHasher::new(blob.version(), blob.size());
+    hasher.begin(blob.version(), blob.size());
     for extent in blob.extents() {
-        read_extent(dev, geometry, extent, &mut hasher)?;
+        read_extent(dev, geometry, extent, hasher)?;
     }
-    Ok(hasher.finish().cmp(&blob.root()).is_eq())
+    Ok(hasher.finish())
 }
 
 /// Gives the data blocks of an extent to the hasher.

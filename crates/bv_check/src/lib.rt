@@ -5,8 +5,10 @@
 mod checking;
 mod damage;
 mod data_hasher;
+mod last_block;
 mod report;
 mod rising;
+mod waiting;
 
 pub use bv_mount::OpenFault as CheckFault;
 pub use checking::check;

@@ -1,4 +1,4 @@
-use Rattle.std.proofs.Common.{◌≡◌, ap, sym, ◌∙◌, subst, arith}
+use Rattle.std.proofs.Common.{◌≡◌, ap, sym, subst, arith}
 use Rattle.spec_record.specs.declared.geometry.Geometry.{Geometry}
 use Rattle.bv_txn.specs.Metas.{metadata_of}
 use Rattle.bv_check.specs.Checks.{AreStored}

@@ -4,7 +4,7 @@ use Rattle.spec_image.specs.Stored.{blocks_of}
 use Rattle.bv_device.specs.Reads.{Reads}
 use Rattle.bv_check.specs.Hashed.{IsHashing, HasTaken, plan_of}
 use Rattle.bv_check.specs.Checks.{data_at}
-use Rattle.bv_check.proofs.damage.has_its_root.Given as goal
+use Rattle.bv_check.proofs.damage.ending_of.Given as goal
 
 abbrev pub invariant-loop-extent : goal.invariant-loop-extent
 invariant-loop-extent g l = record {

@@ -1,20 +1,17 @@
-use Rattle.std.proofs.Common.{◌≡◌, ◌+◌, ◌<◌, ◌++◌, ℕ, List, None, take, get_or, length, sym, ap, ◌∙◌, subst, arith, rules}
+use Rattle.std.proofs.Common.{◌≡◌, ◌+◌, ◌<◌, ◌++◌, ℕ, List, None, take, get_or, length, sym, ap, ◌∙◌, subst, arith}
 use Rattle.std.proofs.lemmas.List.{take_all, map-append}
 use Rattle.std.specs.List.{range_with_len}
-use Rattle.std.specs.Prelude.{not}
 use Rattle.spec_disk.specs.Disk.{block}
 use Rattle.spec_record.specs.declared.extent.Extent.{Extent}
 use Rattle.spec_record.specs.Geometry.{block_at}
-use Rattle.spec_tree.specs.declared.Digest.{Digest}
-use Rattle.spec_tree.specs.Order.{same_digest}
 use Rattle.spec_tree.specs.Tree.{root_of}
 use Rattle.spec_image.specs.Chain.{lengths}
-use Rattle.spec_image.specs.Stored.{blocks_of, bytes_in}
+use Rattle.spec_image.specs.Stored.{blocks_of}
 use Rattle.bv_device.proofs.ReadsLemmas.{Reads-append, Reads-weaker}
 use Rattle.bv_check.specs.Hashed.{HasTaken, HashesData}
 use Rattle.bv_check.specs.Checks.{data_at}
 use Rattle.bv_check.proofs.CheckLemmas.{blocks_more, lengths_more, bytes_are}
-use Rattle.bv_check.proofs.damage.has_its_root.Goals as goal
+use Rattle.bv_check.proofs.damage.ending_of.Goals as goal
 
 pub loop-extent-preserved : goal.loop-extent-preserved
 loop-extent-preserved g c =
@@ -44,20 +41,18 @@ loop-extent-preserved g c =
           (more (data_at v j (blocks_of (take i es))) before));
     }
 
-pub returns : goal.returns
-returns g c =
+pub returns-clause-reads : goal.returns-clause-reads
+returns-clause-reads g c =
     let i = c.loop-extent.extent-index in
     let v = c.args.geometry.now in
     let b = c.args.blob.now in
     let es = b.extents in
+    let h0 = c.begin.new.self in
     let h = c.loop-extent.hasher in
     let all : take i es ≡ es = take_all i es (omega (arith, ap (λ (xs : List Extent). length xs) c.extents-extent-items.ensures)) in
-    let plan : HashesData b.version b.size c.new-hasher.result =
-    subst (λ (n : ℕ). HashesData b.version n c.new-hasher.result) c.size.ensures (subst (λ (n : ℕ). HashesData n c.size.result c.new-hasher.result) c.version.ensures c.new-hasher.ensures.plan) in
-    let yes : c.is_eq.result ≡ same_digest c.finish.result b.root = search rules in
+    let plan : HashesData b.version b.size h0 =
+    subst (λ (n : ℕ). HashesData b.version n h0) c.size.ensures (subst (λ (n : ℕ). HashesData n c.size.result h0) c.version.ensures c.begin.ensures.plan) in
     Reads-weaker None _ _ (λ j. HasTaken h (data_at v j (blocks_of (take i es)))) _ c.loop-extent.invariant.reads
     (λ j t.
     let t2 : HasTaken h (data_at v j (blocks_of es)) = subst (λ (xs : List Extent). HasTaken h (data_at v j (blocks_of xs))) all t in
-    let root : c.finish.result ≡ root_of (bytes_in v j b) =
-    c.finish.ensures (data_at v j (blocks_of es)) t2 ∙ ap root_of (bytes_are c.new-hasher.result h v j b plan c.loop-extent.invariant.plan c.requires.stored.need) in
-    ap not (yes ∙ ap (λ (d : Digest). same_digest d b.root) root))
+    c.finish.ensures.root (data_at v j (blocks_of es)) t2 ∙ ap root_of (bytes_are h0 h v j b plan c.loop-extent.invariant.plan c.requires.stored.need))
