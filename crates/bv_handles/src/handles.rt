@@ -1,6 +1,6 @@
 //! The slots that hold open blobs.
 
-ghost use Rattle.std.specs.Prelude.{◌≡◌, [], None, OnOk, OnErr};
+ghost use Rattle.std.specs.Prelude.{◌≡◌, [], None, IfNone, OnOk, OnErr};
 ghost use Rattle.std.specs.BTreeMap.{insert_entry, is_at};
 ghost use Rattle.std.specs.Map.{remove_entry};
 ghost use Rattle.spec_core.specs.Order.{place_cmp};
@@ -68,6 +68,7 @@ impl Handles {
     pub fn take(&mut self, place: Place) -> Option<Digest>
         ensures root { result ≡ S.held self.old place }
         ensures slots { self.new ≡ remove_entry (is_at (place_cmp place)) self.old }
+        ensures none { IfNone result (self.new ≡ self.old) }
     {
         match self.slots.remove(&place) {
             None => None,
