@@ -1,1 +1,3 @@
-pub mod Nexts
+mod Nexts
+mod ChanceLemmas
+mod VolumeLemmas

@@ -4,7 +4,7 @@ ghost use Rattle.std.specs.Prelude.{◌≡◌, ◌⊎◌, ◌↔◌, [], IfOk, I
 ghost use Rattle.spec_crash.specs.Format.{head, HasOldHead, HasNoHead, IsEmptyVolume};
 ghost use Rattle.spec_disk.specs.Disk as D;
 
-use plain_image::{blobs_from, metadata_from};
+use crate::volumes::volume_of;
 use spec_disk::{Block, Event, now_of};
 use spec_record::Geometry;
 use spec_tree::{Blob, Digest};
@@ -66,14 +66,10 @@ fn is_same_and_empty(found: &Geometry, geometry: &Geometry, held: &BTreeMap<Dige
 fn is_empty_volume(alloc: Global, geometry: &Geometry, image: &[Block]) -> Result<bool, AllocError>
     ensures { IfOk result (λ yes. IsTrue yes ↔ IsEmptyVolume geometry.now image.now) }
 {
-    let Some(metadata) = metadata_from(alloc, image)? else {
+    let Some(volume) = volume_of(alloc, image)? else {
         return Ok(false);
     };
-    let Some(held) = blobs_from(alloc, image)? else {
-        return Ok(false);
-    };
-    let found = &metadata.superblock.geometry;
-    Ok(is_same_and_empty(found, geometry, &held))
+    Ok(is_same_and_empty(&volume.geometry, geometry, &volume.blobs))
 }
 
 /// Whether an image has the old head, or none, or is the new empty volume, where `base` and

@@ -1,41 +1,23 @@
 //! Whether an image holds what a stop after so many calls of the device may leave of a history.
 
-ghost use Rattle.std.specs.Prelude.{◌≡◌, ◌≤◌, ◌⊎◌, ◌↔◌, ℕ, [], ◌∷◌, length, All, Contains};
+ghost use Rattle.std.specs.Prelude.{◌≡◌, ◌≤◌, ◌⊎◌, ◌↔◌, ℕ, [], ◌∷◌, length, Contains};
 ghost use Rattle.std.specs.Prelude.{IfOk, IsTrue, OnOk};
 ghost use Rattle.std.specs.List.Sorted.{IsStrictlySortedBy};
 ghost use Rattle.std.specs.Map.{keys_of};
 ghost use Rattle.spec_core.specs.History.{Legal, log_of, opening_map};
 ghost use Rattle.spec_core.specs.Log.{changed};
 ghost use Rattle.spec_crash.specs.Crash as C;
-ghost use Rattle.spec_image.specs.Volume.{IsWhole};
 ghost use Rattle.spec_tree.specs.Order.{digest_cmp};
 ghost use Rattle.plain_crash.specs.Holding.{IsLogOf, IsMapAt, IsLeftAt};
 
+use crate::volumes::{is_whole, volume_of};
 use bv_model::{History, logged_by, synced_by};
 use plain_core::{Logged, logged_of, make_change, opening_of};
-use plain_image::{blobs_from, is_whole_from};
 use spec_core::MapChange;
 use spec_disk::Block;
 use spec_tree::{Blob, Digest};
 use std::alloc::{AllocError, Global};
 use std::collections::BTreeMap;
-
-/// Whether each of these blobs is whole in an image.
-fn are_whole(
-    alloc: Global,
-    image: &[Block],
-    held: &BTreeMap<Digest, Blob>,
-) -> Result<bool, AllocError>
-    ensures { IfOk result (λ yes.
-        IsTrue yes ↔ All (λ entry. IsWhole image.now entry.0) held.now.entries) }
-{
-    for (root, _) in held {
-        if !is_whole_from(alloc, image, *root)? {
-            return Ok(false);
-        }
-    }
-    Ok(true)
-}
 
 /// The opening map of a history changed by the first `count` changes of its log.
 fn map_after(
@@ -119,11 +101,11 @@ pub fn holds_prefix(
     requires legal { (next : ℕ) × Legal h.now.history next }
     ensures { IfOk result (λ yes. IsTrue yes ↔ C.HoldsPrefix h.now.history calls image.now) }
 {
-    let Some(held) = blobs_from(alloc, image)? else {
+    let Some(volume) = volume_of(alloc, image)? else {
         return Ok(false);
     };
-    if !are_whole(alloc, image, &held)? {
+    if !is_whole(alloc, image)? {
         return Ok(false);
     }
-    is_left(alloc, h, calls, &held)
+    is_left(alloc, h, calls, &volume.blobs)
 }

@@ -1,7 +1,7 @@
 //! Entries by chance, in whole images by hand: the entry that wraps around the ring.
 
 use crate::images::{info, journaled, put_at, set};
-use plain_image::is_no_chance;
+use plain_crash::is_no_chance;
 use spec_disk::{Block, Event};
 use std::alloc::{AllocError, Global};
 use std::test::Fail;

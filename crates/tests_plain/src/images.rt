@@ -3,10 +3,12 @@
 //! A volume of version 2 has 64 data blocks, a journal of 16 blocks, and one or two blocks of nodes.
 //! Its two blobs take such data blocks that the bitmap begins as a journal header does.
 
+use bv_check::check;
+use bv_device::MemDevice;
 use bv_merkle::block_digest;
-use plain_image::{blobs_from, bytes_from, is_sound_from, is_whole_from};
+use bv_mount::inspect_all;
 use spec_disk::Block;
-use spec_tree::{Blob, Digest};
+use spec_tree::Digest;
 use std::alloc::{AllocError, Global};
 use std::test::Fail;
 
@@ -226,75 +228,43 @@ pub(crate) fn journaled(alloc: Global) -> Result<Vec<Block>, AllocError> {
     Ok(image)
 }
 
-/// How many blobs an image has, where it has a map, and whether they are the two.
-fn found(alloc: Global, image: &[Block]) -> Result<Option<(usize, bool)>, AllocError> {
-    let Some(map) = blobs_from(alloc, image)? else {
-        return Ok(None);
-    };
-    let first = Blob {
-        size: 8197,
-        version: 1,
-    };
-    let second = Blob {
-        size: 237_468,
-        version: 2,
-    };
-    let both = map.get(&FIRST) == Some(&first) && map.get(&SECOND) == Some(&second);
-    Ok(Some((map.len(), both)))
+/// A device that has an image.
+fn device(alloc: Global, image: &[Block]) -> Result<MemDevice, AllocError> {
+    Ok(MemDevice::from_blocks(alloc, Vec::from_slice(alloc, image)?))
 }
 
-/// Whether an image has this blob, of so many bytes, where block k has bytes `first + k`.
-fn has_bytes(
-    alloc: Global,
-    image: &[Block],
-    root: Digest,
-    size: usize,
-    first: u8,
-) -> Result<bool, AllocError> {
-    let Some(bytes) = bytes_from(alloc, image, root)? else {
-        return Ok(false);
+/// How many blobs an image has, where it has a volume, and whether they are the two.
+fn found(alloc: Global, image: &[Block]) -> Result<Option<(usize, bool)>, AllocError> {
+    let Ok((_, survey)) = inspect_all(alloc, &mut device(alloc, image)?) else {
+        return Ok(None);
     };
-    for (at, byte) in bytes.iter().enumerate() {
-        if *byte as usize != first as usize + at / 8192 {
-            return Ok(false);
-        }
+    let mut both = 0;
+    for blob in &survey.blobs {
+        let is_first = blob.root() == FIRST && blob.size() == 8197 && blob.version() == 1;
+        let is_second = blob.root() == SECOND && blob.size() == 237_468 && blob.version() == 2;
+        both += u32::from(is_first) + u32::from(is_second);
     }
-    Ok(bytes.len() == size)
+    Ok(Some((survey.blobs.len(), both == 2)))
 }
 
 /// Whether the first blob is whole, and the second.
 fn are_whole(alloc: Global, image: &[Block]) -> Result<[bool; 2], AllocError> {
-    let first = is_whole_from(alloc, image, FIRST)?;
-    let second = is_whole_from(alloc, image, SECOND)?;
-    Ok([first, second])
-}
-
-/// Whether the first blob is sound, and the second.
-fn are_sound(alloc: Global, image: &[Block]) -> Result<[bool; 2], AllocError> {
-    let first = is_sound_from(alloc, image, FIRST)?;
-    let second = is_sound_from(alloc, image, SECOND)?;
-    Ok([first, second])
+    let Ok(report) = check(alloc, &mut device(alloc, image)?) else {
+        return Ok([false, false]);
+    };
+    let is_clean = report.faults.is_empty() && report.blobs == 2;
+    Ok([FIRST, SECOND].map(|root| is_clean && !report.damaged.contains(&root)))
 }
 
 #[test]
-fn an_image_stands_for_its_replayed_blobs_and_their_bytes(rt: HostRuntime) -> Result<(), Fail> {
+fn an_image_stands_for_its_replayed_blobs(rt: HostRuntime) -> Result<(), Fail> {
     for (name, mut image) in [
         ("in place", settled(rt.alloc(), false)?),
         ("with two blocks of nodes", settled(rt.alloc(), true)?),
         ("in the journal", journaled(rt.alloc())?),
     ] {
         assert_eq!(rt; found(rt.alloc(), &image)?, Some((2, true)), "{name}");
-        assert!(rt; has_bytes(rt.alloc(), &image, FIRST, 8197, 0xa1)?, "{name}");
-        assert!(rt;
-            has_bytes(rt.alloc(), &image, SECOND, 237_468, 1)?,
-            "{name}"
-        );
-        assert!(rt;
-            bytes_from(rt.alloc(), &image, Digest([0; 32]))?.is_none(),
-            "{name}"
-        );
         assert_eq!(rt; are_whole(rt.alloc(), &image)?, [true, true], "{name}");
-        assert_eq!(rt; are_sound(rt.alloc(), &image)?, [true, true], "{name}");
         let first_data = image.len().saturating_sub(3);
         put_at(&mut image, first_data, 8191, &[0]);
         assert_eq!(rt; are_whole(rt.alloc(), &image)?, [false, true], "{name}");
@@ -303,8 +273,9 @@ fn an_image_stands_for_its_replayed_blobs_and_their_bytes(rt: HostRuntime) -> Re
 }
 
 #[test]
-fn one_wrong_byte_leaves_no_map_or_its_blob_unsound(rt: HostRuntime) -> Result<(), Fail> {
-    // the block, the offset and the byte there, and whether each blob is sound, where there is a map
+fn one_wrong_byte_leaves_no_volume_or_its_blob_damaged(rt: HostRuntime) -> Result<(), Fail> {
+    // the block, the offset and the byte there, and whether each blob is whole, where there is a
+    // volume; a damaged tree leaves its blob whole
     let rows = [
         ("the superblock's magic", 0, 0, 0, None),
         ("the count of blobs", 0, 64, 3, None),
@@ -323,18 +294,18 @@ fn one_wrong_byte_leaves_no_map_or_its_blob_unsound(rt: HostRuntime) -> Result<(
         ("the info block's number", 3, 24, 9, None),
         ("the first blob's data", 81, 4, 0, Some([false, true])),
         ("behind its data", 81, 5, 0, Some([true, true])),
-        ("its tree", 76, 0, 0, Some([false, true])),
-        ("an unused place of it", 76, 8191, 1, Some([false, true])),
+        ("its tree", 76, 0, 0, Some([true, true])),
+        ("an unused place of it", 76, 8191, 1, Some([true, true])),
         ("the second's last window", 72, 8091, 0, Some([true, false])),
-        ("its tree", 73, 927, 0, Some([true, false])),
+        ("its tree", 73, 927, 0, Some([true, true])),
         ("behind its tree", 73, 928, 0, Some([true, true])),
     ];
-    for (name, block, offset, value, sound) in rows {
+    for (name, block, offset, value, whole) in rows {
         let mut image = settled(rt.alloc(), false)?;
         put_at(&mut image, block, offset, &[value]);
-        match sound {
+        match whole {
             None => assert_eq!(rt; found(rt.alloc(), &image)?, None, "{name}"),
-            Some(sound) => assert_eq!(rt; are_sound(rt.alloc(), &image)?, sound, "{name}"),
+            Some(whole) => assert_eq!(rt; are_whole(rt.alloc(), &image)?, whole, "{name}"),
         }
     }
     Ok(())

@@ -12,8 +12,6 @@ mod histories;
 #[cfg(test)]
 mod images;
 #[cfg(test)]
-mod replays;
-#[cfg(test)]
 mod stops;
 #[cfg(test)]
 mod timing;
