@@ -103,8 +103,7 @@ module _ (g : Geometry) (placed : List (Digest × List ℕ)) (d : Disk) (h : His
   has_its root blob has =
       let k : Recorded g placed (now_of d) root blob = recorded g placed m (now_of d) root blob records has in
       let places : List ℕ = blocks_of k.found.extents in
-      let here : Lies g d h root places = lies root places k.lies in
-      (
+      let here : Lies g d h root places = lies root places k.lies in (
         ap (image_has root) k.is ∙ ap (λ (o : Option BlobRecord). is_some o) k.there,
         ap (image_size root) k.is ∙ ap record_size k.there ∙ ap (λ (b : Blob). b.size) k.value,
         ap (image_version root) k.is ∙ ap record_version k.there ∙ ap (λ (b : Blob). b.version) k.value,

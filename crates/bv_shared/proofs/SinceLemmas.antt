@@ -95,8 +95,7 @@ since_fresh o v is fresh disk =
 module _ (o v w : Seen) (within : AreWithin v) (who : Who) (act : Act) where
   since_more : (reply : Reply) → Happens v w who act reply → is_unmount act ≡ false → HasNow w → Since o v → Since o w
   since_more reply happens one now k =
-      let disk = one_disk_more v w who act reply happens k.3 in
-      (
+      let disk = one_disk_more v w who act reply happens k.3 in (
         omega (arith, k.0, happens.faults.0),
         caused_more v w who act reply happens o.store.faults k.0 k.1,
         mounted_more v w who act reply happens one k.2,

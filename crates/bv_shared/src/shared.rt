@@ -1,6 +1,7 @@
 //! The value behind the lock, and how it begins and ends.
 ghost use Rattle.std.specs.Prelude.{◌≡◌, ◌≤◌, [], IfOk, IfErr};
 ghost use Rattle.spec_core.specs.Synced.{Caused};
+ghost use Rattle.spec_orderly.specs.Slots.{AreMounted};
 ghost use Rattle.bv_shared.specs.Moments.{Moments};
 ghost use Rattle.bv_shared.specs.Since.{AreOfOneDisk, Since, Since-prop};
 
@@ -52,6 +53,7 @@ impl<'t, S: Store> Shared<'t, S> {
         ensures disk { AreOfOneDisk result.store.began result.store.told }
         ensures later { self.entry.opening.value.store.faults ≤ result.store.faults }
         ensures moments { Moments result }
+        ensures mounted { AreMounted result.history.events }
     {
         let Shared {
             volume,

@@ -11,3 +11,6 @@ returns-clause-later g c = c.args.self.since.0
 
 pub returns-clause-moments : goal.returns-clause-moments
 returns-clause-moments g c = c.args.self.since.4
+
+pub returns-clause-mounted : goal.returns-clause-mounted
+returns-clause-mounted g c = c.args.self.since.2

@@ -8,8 +8,8 @@ use Rattle.bv_ledger.specs.Answers as A
 use Rattle.bv_shared.proofs.AddLemmas.{begun_ok, grant_kept}
 use Rattle.bv_shared.proofs.shared.Shared.note_begin.Goals as goal
 
-pub begin-requires-clause-order : goal.begin-requires-clause-order
-begin-requires-clause-order g c = subst (λ (o : Option OwnAdd). IfSome o (λ a. a.root ≡ c.args.root)) (sym c.requires.idle) tt
+pub begin-answer-requires-clause-order : goal.begin-answer-requires-clause-order
+begin-answer-requires-clause-order g c = subst (λ (o : Option OwnAdd). IfSome o (λ a. a.root ≡ c.args.root)) (sym c.requires.idle) tt
 
 pub invariant_of-self : goal.invariant_of-self
 invariant_of-self g c = record {

@@ -6,8 +6,8 @@ use Rattle.bv_volume.specs.Answers.{settle_reply}
 use Rattle.bv_shared.proofs.WroteLemmas.{has_put}
 use Rattle.bv_shared.proofs.shared.Shared.note_settle.Goals as goal
 
-pub settle-requires-clause-put : goal.settle-requires-clause-put
-settle-requires-clause-put g c = has_put c.args.self.now.opening.value c.args.self.now.volume c.args.who.session c.args.add c.args.self.now.since c.requires.within c.history-history.ensures.puts c.requires.all c.requires.written
+pub settle-answer-requires-clause-put : goal.settle-answer-requires-clause-put
+settle-answer-requires-clause-put g c = has_put c.args.self.now.opening.value c.args.self.now.volume c.args.who.session c.args.add c.args.self.now.since c.requires.within c.history-history.ensures.puts c.requires.all c.requires.written
 
 pub invariant_of-self : goal.invariant_of-self
 invariant_of-self g c = record {
