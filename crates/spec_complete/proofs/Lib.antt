@@ -4,3 +4,4 @@ pub mod Weights
 pub mod Taking
 pub mod Going
 pub mod Results
+pub mod Meeting

@@ -60,7 +60,7 @@ made_good who (x ∷ ms) (e ∷ es) (by, act, reply, rest) good =
     (subst (λ (p : Act × Reply). IsGood p.0 p.1) (λ k. (act k, reply k)) good.0, made_good who ms es rest good.1)
 
 -- the act of the first move
-abbrev first_act : List Move → Option Act
+abbrev pub first_act : List Move → Option Act
 first_act [] = None
 first_act (m ∷ ms) = Some m.0
 
@@ -162,7 +162,7 @@ own_is (tasks.Unlink r) = tt
 own_is tasks.Sync = tt
 own_is tasks.List = tt
 
-requests_own : (lines : List ScriptLine) → AllByRecursion (λ t. IsOwn t.1) (map request_of lines)
+pub requests_own : (lines : List ScriptLine) → AllByRecursion (λ t. IsOwn t.1) (map request_of lines)
 requests_own [] = tt
 requests_own (l ∷ lines) = (own_is (task_of l.command), requests_own lines)
 
@@ -224,7 +224,7 @@ module _ (own : List CoreEvent) (ms : List Move) (r : LineResult) (calm : (f : �
   other_result act q other good answers = absurd other
 
 -- a line's first move is by its own act
-first_own : (version : ℕ) (own : List CoreEvent) (act : Act) (ms : List Move) → IsOther act → LineMoves version own act ms → first_act ms ≡ Some act
+pub first_own : (version : ℕ) (own : List CoreEvent) (act : Act) (ms : List Move) → IsOther act → LineMoves version own act ms → first_act ms ≡ Some act
 first_own version own (Begin r n) ms other moves = absurd other
 first_own version own (Open slot r) ms other (inl (q, refused, is)) = ap first_act is
 first_own version own (Open slot r) ms other (inr (inl (n, inl is))) = ap first_act is
@@ -247,7 +247,7 @@ first_own version own Sync ms other (q, is) = ap first_act is
 first_own version own ListAll ms other (q, is) = ap first_act is
 first_own version own Unmount ms other (q, is) = absurd other
 
-some_is : {A : Type 0} (x y : A) → Some x ≡ Some y → x ≡ y
+pub some_is : {A : Type 0} (x y : A) → Some x ≡ Some y → x ≡ y
 some_is x y e = cc e
 
 -- ---- any line

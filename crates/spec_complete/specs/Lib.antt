@@ -1,2 +1,3 @@
 -- When a run goes well.
+pub mod Fit
 pub mod Good
