@@ -1,11 +1,12 @@
 -- The row of a commit, over what the store shows.
-use Rattle.std.proofs.Common.{◌≡◌, ◌≤◌, ◌⊎◌, ℕ, ◌+◌, ◌%◌, List, [], ◌∷◌, ◌++◌, length, Bool, true, false, cond, leb, Option, Some, None, Result, Ok, Err, refl, ap, sym, ◌∙◌, subst, inl, inr, arith, length-append}
+use Rattle.std.proofs.Common.{◌≡◌, ◌≤◌, ◌⊎◌, ℕ, ◌+◌, ◌-◌, ◌%◌, List, [], ◌∷◌, ◌++◌, length, Bool, true, false, cond, leb, Option, Some, None, Result, Ok, Err, refl, ap, sym, ◌∙◌, subst, inl, inr, arith, length-append}
+use Rattle.std.proofs.lemmas.Bool.Decides.{nat_tests}
 use Rattle.std.proofs.lemmas.List.Sums.{sum_by-append, sum_by-cons}
 use Rattle.std.specs.Prelude.{Contains, option_map, IfSome, IsSomeAnd, is_some, OnOk, OnErr}
 use Rattle.spec_disk.specs.declared.event.Event.{Event}
 use Rattle.spec_record.specs.declared.geometry.Geometry.{Geometry}
 use Rattle.spec_record.specs.declared.info.Info.{Info}
-use Rattle.spec_record.specs.Geometry.{block_at, ring_slots}
+use Rattle.spec_record.specs.Geometry.{block_at, meta_blocks, ring_slots}
 use Rattle.spec_record.specs.Entry.{Entry}
 use Rattle.spec_record.specs.EntryBlocks.{entry_slots}
 use Rattle.spec_image.specs.Chain.{BlobRecord}
@@ -19,11 +20,13 @@ use Rattle.spec_meta.specs.Blocks.{metadata_at, patched}
 use Rattle.spec_meta.specs.Change.{Change as MetaChange, Purge as Purged, after_all}
 use Rattle.spec_meta.proofs.ChangeLemmas.{changes_keep}
 use Rattle.spec_rest.specs.Rest.{Map}
+use Rattle.bv_device.specs.Plan.{a_sync}
 use Rattle.bv_device.specs.Told.{Disk}
 use Rattle.bv_device.specs.Seen.{Seen, Performs}
-use Rattle.bv_ring.specs.Cursor.{Cursor, StandsBehind, past, emptied}
+use Rattle.bv_journal.specs.Plans.{ring_writes, checkpoint_plan}
+use Rattle.bv_ring.specs.Cursor.{Cursor, StandsBehind, past, emptied, info_at_cursor}
 use Rattle.bv_store.specs.declared.publication.Publication.{Publication}
-use Rattle.bv_store.specs.Stored.{Entry as Asked, Counts, Grows, SameData, LeavesThird, IsThere, HasBlob, blocks_on, blocks_in, entry_changes, nodes_taken, placed_after, taken_by}
+use Rattle.bv_store.specs.Stored.{Entry as Asked, Counts, Grows, SameData, LeavesThird, TakesRing, IsThere, HasBlob, blocks_on, blocks_in, entry_changes, nodes_taken, placed_after, taken_by}
 use Rattle.bv_txn.specs.Metas.{MetaBlocks}
 use Rattle.bv_journaled.specs.declared.prepared.Prepared.{Prepared}
 use Rattle.bv_journaled.specs.Kept.{records_at, IsOf, Keeps}
@@ -33,7 +36,7 @@ use Rattle.bv_journaled.proofs.CommitLemmas.{entry_is_plan, entry_spares, entry_
 use Rattle.bv_journaled.proofs.EntryLemmas.{of_changes}
 use Rattle.bv_journaled.proofs.PatchLemmas.{patched_same, all_stay, purge_frees, freed_of, freed_known}
 use Rattle.bv_journaled.proofs.PlacedLemmas.{placed_blocks, placed_known}
-use Rattle.bv_journaled.proofs.RowLemmas.{run_counts, run_grows, told_rests, rests_told, more_leaves, more_spares, ok_from, on_ok, on_ok_at, on_ok_from, on_err_from, either}
+use Rattle.bv_journaled.proofs.RowLemmas.{run_counts, run_calls, run_grows, told_rests, rests_told, more_leaves, more_spares, ok_from, on_ok, on_ok_at, on_ok_from, on_err_from, either}
 
 -- ---- the ring behind one entry more
 
@@ -260,6 +263,39 @@ module _ {T E : Type 0} (r : Result T E) (s new : Standing) (e : Asked) (c : Don
 
   abbrev used : Standing → ℕ
   used x = (metadata_at x.meta.geometry x.meta.blocks).super.used_nodes
+
+  -- ---- the ring
+
+  writes : (g : Geometry) (slot : ℕ) (blocks : List (List ℕ)) → length (ring_writes g slot blocks) ≡ length blocks
+  writes g slot [] = refl
+  writes g slot (b ∷ rest) = omega (arith, writes g (slot + 1) rest)
+
+  fits_in : (n k : ℕ) → n ≤ k → leb n k ≡ true
+  fits_in n k h = grind (arith, nat_tests, h)
+
+  abbrev size : ℕ
+  size = length p.blocks.items
+
+  -- an entry has a header, a payload at least and a commit
+  three : 3 ≤ size
+  three = omega (arith, long s c.is p c.prep, c.prep.plans.lawful.count.from_low)
+
+  most : size ≤ meta_blocks s.meta.geometry + 2
+  most = omega (arith, long s c.is p c.prep, c.prep.plans.lawful.count.to_high)
+
+  in_room : size ≤ s.cursor.room → length (entry_plan s.meta.geometry s.cursor s.meta.blocks p.blocks.items) ≡ size + 1
+  in_room fits =
+      ap (λ (t : Bool). length (a_sync ++ (cond t [] (checkpoint_plan s.meta.geometry s.meta.blocks (info_at_cursor s.cursor)) ++ ring_writes s.cursor.geometry s.cursor.slot p.blocks.items))) (fits_in size s.cursor.room fits)
+      ∙ omega (arith, writes s.cursor.geometry s.cursor.slot p.blocks.items)
+
+  pub done_ring : TakesRing r (stored_of s) (stored_of new)
+  done_ring = on_ok r _ (λ v ok roomy.
+      let fits : size ≤ s.cursor.room = omega (arith, roomy, most) in
+      let calls = run_calls r (entry_plan s.meta.geometry s.cursor s.meta.blocks p.blocks.items) s new c.is geometry opened c.performs v ok in
+      let room : new.cursor.room ≡ s.cursor.room - size =
+      ap (λ (x : Standing). x.cursor.room) (on_ok_at r v (new ≡ after s c.is p c.prep new.device) ok c.ok)
+      ∙ ap (λ (t : Bool). (past (cond t s.cursor (emptied s.cursor)) size).room) (fits_in size s.cursor.room fits) in
+      (omega (arith, calls, in_room fits, most), omega (arith, room, three, fits), omega (arith, room, most, fits)))
 
   pub done_nodes : OnOk r (IfSome (option_map asked s.planned) (λ x. (metadata_at new.meta.geometry new.meta.blocks).super.used_nodes ≤ (metadata_at s.meta.geometry s.meta.blocks).super.used_nodes + nodes_taken x.published))
   done_nodes = on_ok_from r (new ≡ after s c.is p c.prep new.device) _ c.ok (λ h.

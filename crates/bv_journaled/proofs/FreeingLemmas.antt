@@ -28,7 +28,7 @@ pub record FreeBelow (m : Metadata) (n : ℕ) (ks : List ℕ) : Type 0 where
 
 -- ---- a node is free or in use
 
-free_is : (r : Result Node NodeFault) → is_free r ≡ true → r ≡ Ok nodes.Free
+pub free_is : (r : Result Node NodeFault) → is_free r ≡ true → r ≡ Ok nodes.Free
 free_is (Ok nodes.Free) e = refl
 free_is (Ok (nodes.Inode i)) e = absurd cc
 free_is (Ok (nodes.Container c)) e = absurd cc
@@ -57,7 +57,7 @@ pub none_free : (m : Metadata) → FreeBelow m 0 []
 unfolding count_below
 none_free m = record { many = refl; once = λ k. omega arith; free = λ k some. absurd (omega (arith, some)) }
 
-times_push : (k x : ℕ) (xs : List ℕ) → times k (xs ++ x ∷ []) ≡ times k xs + count (eqb x k)
+pub times_push : (k x : ℕ) (xs : List ℕ) → times k (xs ++ x ∷ []) ≡ times k xs + count (eqb x k)
 times_push k x xs = omega (arith, sum_by-append (λ y. count (eqb y k)) xs (x ∷ []), sum_by-cons (λ y. count (eqb y k)) x [])
 
 -- a node that isn't free is passed by

@@ -24,5 +24,6 @@ pub mod PreparedLemmas
 pub mod ExtentLemmas
 pub mod PublishLemmas
 pub mod FreeingLemmas
+pub mod HintLemmas
 pub mod PublishedLemmas
 pub mod ReadingLemmas

@@ -1,6 +1,8 @@
 -- What is found after purges, and one purge more.
 use Rattle.std.proofs.Common.{◌≡◌, ◌<◌, ℕ, ◌+◌, List, [], ◌∷◌, ◌++◌, length, take, get_or, Bool, true, false, cond, ◌||◌, Option, Some, None, refl, ap, sym, ◌∙◌, subst, inl, inr, arith}
 use Rattle.std.proofs.lemmas.List.{append_assoc, append-nil, take_more}
+use Rattle.std.proofs.lemmas.List.Folds.{list_any_more}
+use Rattle.std.specs.Cmp.{eq_by_cmp_equiv}
 use Rattle.std.specs.List.{list_any}
 use Rattle.spec_tree.specs.declared.Digest.{Digest}
 use Rattle.spec_tree.specs.Order.{same_digest}
@@ -11,7 +13,7 @@ use Rattle.spec_image.specs.WellFormed.{records_of, blobs_named, is_well_formed}
 use Rattle.spec_image.specs.WellFormedParts.{WellFormed}
 use Rattle.spec_image.proofs.SoundLemmas.{one_root}
 use Rattle.spec_image.proofs.WellFormedLemmas.{well_formed_parts}
-use Rattle.spec_core.proofs.Holding.{same_self}
+use Rattle.spec_core.proofs.Holding.{digest_total, same_self}
 use Rattle.spec_laws.proofs.RecordLemmas.{known_blob}
 use Rattle.spec_meta.specs.Change.{Change, purged, after_all}
 use Rattle.spec_meta.proofs.Counting.{count, true_or_false, Inserted, sum_inserted}
@@ -81,3 +83,21 @@ purges_up_to m roots i d before after formed within was is =
     let root : Digest = get_or roots i d in
     let more : List Change = purge_change (cond (list_any (same_digest root) (take i roots)) None (blob_in m root)) in
     is ∙ ap (λ (l : List Change). l ++ more) was ∙ sym (next_purge m (take i roots) root formed) ∙ ap (purge_changes m) (sym (take_more roots i d within))
+
+-- what a set of the roots so far says, the roots so far say
+pub asked_of_set : (m : Metadata) (set done : List Digest) (root : Digest) (before after : List Change) → list_any (same_digest root) set ≡ list_any (same_digest root) done
+    → after ≡ before ++ purge_change (cond (list_any (same_digest root) set) None (blob_in m root)) → after ≡ before ++ purge_change (cond (list_any (same_digest root) done) None (blob_in m root))
+asked_of_set m set done root before after same is = is ∙ ap (λ (t : Bool). before ++ purge_change (cond t None (blob_in m root))) same
+
+either_way : (s a : Bool) → cond s true a ≡ (a || s)
+either_way true true = refl
+either_way true false = refl
+either_way false true = refl
+either_way false false = refl
+
+-- a root more was noted
+pub noted_more : (roots : List Digest) (i : ℕ) (d : Digest) (set new : List Digest) (r : Digest) → i < length roots → list_any (same_digest r) set ≡ list_any (same_digest r) (take i roots)
+    → list_any (same_digest r) new ≡ cond (same_digest (get_or roots i d) r) true (list_any (same_digest r) set) → list_any (same_digest r) new ≡ list_any (same_digest r) (take (i + 1) roots)
+noted_more roots i d set new r within was noted =
+    noted ∙ rw ((eq_by_cmp_equiv digest_total).symm (get_or roots i d) r, was) (either_way (same_digest r (get_or roots i d)) (list_any (same_digest r) (take i roots)))
+    ∙ sym (list_any_more (same_digest r) roots i d within)

@@ -74,6 +74,7 @@ stored_of s =
       faults = s.device.fault_count;
       placed = placed_at s.meta.geometry s.meta.blocks;
       number = s.cursor.number;
+      ring_room = s.cursor.room;
       used_nodes = (metadata_at s.meta.geometry s.meta.blocks).super.used_nodes;
       planned = option_map asked s.planned;
     }

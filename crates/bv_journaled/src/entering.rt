@@ -15,6 +15,7 @@ use crate::store::JournaledStore;
 use bv_device::{Block, Device, Failed};
 use bv_entry::Entry;
 use bv_txn::Change;
+use spec_tree::Digest;
 
 impl<D: Device> JournaledStore<D> {
     /// Makes room in the ring for so many blocks, by a checkpoint where it has too little.
@@ -85,7 +86,7 @@ impl<D: Device> JournaledStore<D> {
     }
 
     /// Makes the changes of an entry in memory.
-    fn enter(&mut self, entry: &Entry, changes: Vec<Change>)
+    fn enter(&mut self, entry: &Entry, purged: &[Digest], changes: Vec<Change>)
         requires none { self.old.planned ≡ None }
         requires below { All (λ t. t.0 < meta_blocks self.old.meta.geometry) entry.now.targets }
         requires formed { is_well_formed (metadata_at self.old.meta.geometry
@@ -96,6 +97,7 @@ impl<D: Device> JournaledStore<D> {
         } }
     {
         self.meta.apply(entry);
+        self.hints.follow(purged, &changes);
         self.gone = changes;
     }
 
@@ -120,14 +122,14 @@ impl<D: Device> JournaledStore<D> {
             return Err(Failed);
         };
         let Prepared {
-            purged: _,
+            purged,
             published: _,
             changes,
             entry,
             blocks,
         } = planned;
         self.write_entry(&blocks)?;
-        self.enter(&entry, changes);
+        self.enter(&entry, &purged, changes);
         Ok(())
     }
 }

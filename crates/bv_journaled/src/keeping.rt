@@ -42,6 +42,10 @@ impl<D: Device> Store for JournaledStore<D> {
         self.used()
     }
 
+    fn ring_room(&self) -> u64 {
+        self.ring.room()
+    }
+
     fn blocks_of(&self, alloc: Global, root: Digest) -> Result<Vec<u64>, AllocError> {
         self.places_of(alloc, root)
     }

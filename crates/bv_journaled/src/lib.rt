@@ -6,6 +6,7 @@ mod drawing;
 mod entering;
 mod fitting;
 mod freeing;
+mod hints;
 mod keeping;
 mod laws;
 mod lookup;

@@ -1,14 +1,15 @@
 //! The blob of a root, looked up in the metadata.
 
-ghost use Rattle.std.specs.Prelude.{◌≡◌, ◌<◌, ◌*◌, length, find, IfOk};
+ghost use Rattle.std.specs.Prelude.{◌≡◌, ◌<◌, ◌*◌, length, find, is_some, true, IfOk};
 ghost use Rattle.std.specs.Option.{option_to_list};
 ghost use Rattle.spec_image.specs.Chain.{chain as chain_of};
 ghost use Rattle.spec_image.specs.Volume.{blob_in};
-ghost use Rattle.spec_image.specs.WellFormed.{read_of};
+ghost use Rattle.spec_image.specs.WellFormed.{is_well_formed, read_of};
 ghost use Rattle.spec_meta.proofs.MapLemmas.{named};
 ghost use Rattle.bv_node.specs.Chains.{nodes_of};
 ghost use Rattle.bv_txn.specs.Metas.{metadata_of};
 
+use crate::hints::Hints;
 use crate::reading::is_inode_of;
 use bv_node::{BlobRec, ChainFault, NodeMap, chain};
 use bv_txn::Meta;
@@ -63,12 +64,9 @@ fn blob_named(
     blob_of(alloc, meta, node)
 }
 
-/// The blob with this root, or none. Only the chains of inodes that have the root are read.
-pub(crate) fn find_blob(
-    alloc: Global,
-    meta: &Meta,
-    root: &Digest,
-) -> Result<Option<BlobRec>, AllocError>
+/// The blob with this root, or none, by all inodes. Only the chains of those that have the root are
+/// read.
+fn search_blob(alloc: Global, meta: &Meta, root: &Digest) -> Result<Option<BlobRec>, AllocError>
     ensures { IfOk result (λ found. found ≡ blob_in (metadata_of meta.now) root.now) }
 {
     for node in 0..meta.geometry().nodes {
@@ -78,4 +76,42 @@ pub(crate) fn find_blob(
         }
     }
     Ok(None)
+}
+
+/// The blob with this root, where the hint tells its inode.
+fn hinted_blob(
+    alloc: Global,
+    meta: &Meta,
+    hints: &Hints,
+    root: &Digest,
+) -> Result<Option<BlobRec>, AllocError>
+    requires { is_well_formed (metadata_of meta.now) ≡ true }
+    ensures { IfOk result (λ found. is_some found ≡ true
+        → found ≡ blob_in (metadata_of meta.now) root.now) }
+{
+    let Some(inode) = hints.inode_of(root) else {
+        return Ok(None);
+    };
+    let node = u64::from(inode);
+    if node >= meta.geometry().nodes {
+        return Ok(None);
+    }
+    blob_named(alloc, meta, node, root)
+}
+
+/// The blob with this root, or none.
+pub(crate) fn find_blob(
+    alloc: Global,
+    meta: &Meta,
+    hints: &Hints,
+    root: &Digest,
+) -> Result<Option<BlobRec>, AllocError>
+    requires { is_well_formed (metadata_of meta.now) ≡ true }
+    ensures { IfOk result (λ found. found ≡ blob_in (metadata_of meta.now) root.now) }
+{
+    let found = hinted_blob(alloc, meta, hints, root)?;
+    if found.is_some() {
+        return Ok(found);
+    }
+    search_blob(alloc, meta, root)
 }

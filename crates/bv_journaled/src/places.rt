@@ -52,7 +52,7 @@ impl<D: Device> JournaledStore<D> {
         requires { is_some (find (stored_of self.now).placed root) ≡ true }
         ensures { IfOk result (λ blocks. find (stored_of self.now).placed root ≡ Some blocks.items) }
     {
-        let Some(blob) = find_blob(alloc, &self.meta, &root)? else {
+        let Some(blob) = find_blob(alloc, &self.meta, &self.hints, &root)? else {
             return Err(AllocError);
         };
         blocks_of_blob(alloc, &blob)

@@ -11,6 +11,7 @@ ghost use Rattle.bv_journaled.specs.Publishing.{CanTake};
 ghost use Rattle.bv_journaled.specs.Standing.{IsHeld, IsPrepared, asked, placed_at, stored_of};
 
 use crate::drawing::draw_up;
+use crate::hints::Hints;
 use crate::prepared::Prepared;
 use crate::publishing::publication_of;
 use crate::purging::purges;
@@ -25,6 +26,7 @@ use std::alloc::{AllocError, Global};
 fn changes_for(
     alloc: Global,
     meta: &Meta,
+    hints: &Hints,
     purged: &[Digest],
     published: &Option<Publication>,
 ) -> Result<Vec<Change>, AllocError>
@@ -35,11 +37,11 @@ fn changes_for(
         (record { purged = purged.now; published = published.now })
         (map change_of changes.items)) }
 {
-    let mut changes = purges(alloc, meta, purged)?;
+    let mut changes = purges(alloc, meta, hints, purged)?;
     match published {
         None => Ok(changes),
         Some(publication) => {
-            let change = publication_of(alloc, meta, publication)?;
+            let change = publication_of(alloc, meta, hints.free_from(), publication)?;
             changes.push(change)?;
             Ok(changes)
         }
@@ -66,7 +68,7 @@ impl<D: Device> JournaledStore<D> {
         ensures asked { IfOk result (λ p.
             asked p ≡ record { purged = purged.now; published = published }) }
     {
-        let changes = changes_for(alloc, &self.meta, purged, &published)?;
+        let changes = changes_for(alloc, &self.meta, &self.hints, purged, &published)?;
         let (entry, blocks) = draw_up(alloc, &self.meta, self.ring.next(), &changes)?;
         let purged = Vec::from_slice(alloc, purged)?;
         Ok(Prepared {

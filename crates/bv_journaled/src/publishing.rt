@@ -12,10 +12,12 @@ use bv_store::Publication;
 use bv_txn::{Change, Meta};
 use std::alloc::{AllocError, Global};
 
-/// The change that publishes a blob: its blocks in the fewest extents, in the first free nodes.
+/// The change that publishes a blob: its blocks in the fewest extents, in free nodes from this one on
+/// where enough are.
 pub(crate) fn publication_of(
     alloc: Global,
     meta: &Meta,
+    from: u64,
     published: &Publication,
 ) -> Result<Change, AllocError>
     requires formed { is_well_formed (metadata_of meta.now) ≡ true }
@@ -26,7 +28,7 @@ pub(crate) fn publication_of(
     let version = meta.geometry().version as u16;
     let extents = runs_of(alloc, &published.blocks)?;
     let count = nodes_for(extents.len() as u64);
-    let nodes = free_nodes(alloc, meta, count)?;
+    let nodes = free_nodes(alloc, meta, from, count)?;
     Ok(Change::Publish {
         root: published.root,
         size: published.blob.size,

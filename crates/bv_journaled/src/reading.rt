@@ -1,6 +1,6 @@
 //! The nodes of the metadata, read.
 
-ghost use Rattle.std.specs.Prelude.{◌≡◌, ◌<◌, take, drop};
+ghost use Rattle.std.specs.Prelude.{◌≡◌, ◌<◌, take, drop, true, IfSome};
 ghost use Rattle.spec_meta.proofs.Frame.{is_free as reads_free};
 ghost use Rattle.bv_txn.specs.Metas.{metadata_of};
 ghost use Rattle.bv_journaled.specs.Inodes.{bytes_at, is_inode_of as reads_inode_of};
@@ -54,4 +54,18 @@ pub(crate) fn is_free(meta: &Meta, node: u64) -> bool
         return false;
     }
     matches!(read_node(place, meta.geometry().version), Ok(Node::Free))
+}
+
+/// The root of the blob whose inode a node is, if it is one.
+pub(crate) fn root_at(meta: &Meta, node: u64) -> Option<Digest>
+    requires { node < meta.now.geometry.nodes }
+    ensures { IfSome result (λ root.
+        reads_inode_of root ((metadata_of meta.now).nodes.read node) ≡ true) }
+{
+    let root = root_in(place_of(meta, node));
+    if is_inode_of(meta, node, &root) {
+        Some(root)
+    } else {
+        None
+    }
 }

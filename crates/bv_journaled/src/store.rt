@@ -18,6 +18,7 @@ ghost use Rattle.bv_txn.specs.Metas.{IsLawful};
 ghost use Rattle.spec_record.specs.declared.info.Info.{Info};
 ghost use Rattle.spec_image.specs.WellFormed.{is_well_formed};
 
+use crate::hints::Hints;
 use crate::prepared::Prepared;
 use bv_bytes::Field;
 use bv_device::{Block, Device, Failed};
@@ -42,6 +43,8 @@ pub struct JournaledStore<D: Device> {
     /// What the last entry changed, until it lasts: the blocks of what it purged aren't free yet.
     pub(crate) gone: Vec<Change>,
     pub(crate) planned: Option<Prepared>,
+    /// Where nodes are looked for first.
+    pub(crate) hints: Hints,
 }
 
 impl<D: Device> Model for JournaledStore<D> {
@@ -92,6 +95,7 @@ impl<D: Device> JournaledStore<D> {
             → KeepsMap meta.geometry d meta.blocks (map_at meta.geometry meta.blocks)
             → Both result (map_at meta.geometry meta.blocks) (map_at meta.geometry meta.blocks)) }
     {
+        let hints = Hints::new(alloc, &meta);
         JournaledStore {
             dev,
             opened,
@@ -99,6 +103,7 @@ impl<D: Device> JournaledStore<D> {
             ring,
             gone: Vec::new(alloc),
             planned: None,
+            hints,
         }
     }
 
@@ -113,6 +118,7 @@ impl<D: Device> JournaledStore<D> {
             ring: _,
             gone: _,
             planned: _,
+            hints: _,
         } = self;
         dev
     }
@@ -166,6 +172,7 @@ impl<D: Device> JournaledStore<D> {
             prepared }
         ensures { self.new ≡ record self.old { planned = Some prepared } }
     {
+        self.hints.expect(&prepared);
         self.planned = Some(prepared);
     }
 

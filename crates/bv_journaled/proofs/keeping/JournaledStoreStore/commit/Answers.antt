@@ -1,4 +1,4 @@
-use Rattle.bv_journaled.proofs.CommitRows.{Done, done, some_of, done_counts, done_grows, done_placed, done_kept, done_number, done_nodes, done_nodes_kept, done_both, done_held}
+use Rattle.bv_journaled.proofs.CommitRows.{Done, done, some_of, done_counts, done_grows, done_placed, done_kept, done_number, done_ring, done_nodes, done_nodes_kept, done_both, done_held}
 use Rattle.bv_journaled.proofs.keeping.JournaledStoreStore.commit.Goals as goal
 use Rattle.bv_journaled.proofs.keeping.JournaledStoreStore.commit.Goals.{After-commit_planned}
 use Rattle.bv_journaled.proofs.keeping.JournaledStoreStore.commit.Given.{Over}
@@ -24,6 +24,9 @@ returns-clause-kept g c = done_kept c.commit_planned.result c.args.self.now c.co
 
 pub returns-clause-number : goal.returns-clause-number
 returns-clause-number g c = done_number c.commit_planned.result c.args.self.now c.commit_planned.new.self c.requires.planned.0 (whole g c)
+
+pub returns-clause-ring : goal.returns-clause-ring
+returns-clause-ring g c = done_ring c.commit_planned.result c.args.self.now c.commit_planned.new.self c.requires.planned.0 (whole g c)
 
 pub returns-clause-nodes : goal.returns-clause-nodes
 returns-clause-nodes g c = done_nodes c.commit_planned.result c.args.self.now c.commit_planned.new.self c.requires.planned.0 (whole g c)

@@ -3,7 +3,7 @@ use Rattle.std.specs.Prelude.{find}
 use Rattle.spec_image.specs.WellFormed.{records_below}
 use Rattle.spec_meta.proofs.MapLemmas.{named}
 use Rattle.bv_txn.specs.Metas.{metadata_of}
-use Rattle.bv_journaled.proofs.lookup.find_blob.Given as goal
+use Rattle.bv_journaled.proofs.lookup.search_blob.Given as goal
 
 -- none so far has the root
 abbrev pub invariant-loop-node : goal.invariant-loop-node

@@ -3,8 +3,8 @@ use Rattle.spec_record.specs.declared.geometry.Geometry.{Geometry}
 use Rattle.spec_image.specs.Metadata.{Metadata}
 use Rattle.bv_txn.specs.Metas.{metadata_of}
 use Rattle.bv_journaled.proofs.FreeingLemmas.{FreeBelow, free_at, none_free, pass_by, add_free, so_many, all_of_them}
-use Rattle.bv_journaled.proofs.freeing.free_nodes.Goals as goal
-use Rattle.bv_journaled.proofs.freeing.free_nodes.Goals.{then-is_free+in_ok-push, else-is_free}
+use Rattle.bv_journaled.proofs.freeing.first_free_nodes.Goals as goal
+use Rattle.bv_journaled.proofs.freeing.first_free_nodes.Goals.{then-is_free+in_ok-push, else-is_free}
 
 pub loop-node-init : goal.loop-node-init
 loop-node-init c = record {

@@ -6,7 +6,7 @@ use Rattle.spec_image.specs.WellFormed.{records_below}
 use Rattle.spec_meta.proofs.MapLemmas.{named}
 use Rattle.bv_txn.specs.Metas.{metadata_of}
 use Rattle.bv_journaled.proofs.LookupLemmas.{found_here, not_here}
-use Rattle.bv_journaled.proofs.lookup.find_blob.Goals as goal
+use Rattle.bv_journaled.proofs.lookup.search_blob.Goals as goal
 
 pub loop-node-init : goal.loop-node-init
 unfolding records_below
