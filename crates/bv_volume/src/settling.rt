@@ -3,6 +3,7 @@
 ghost use Rattle.std.specs.Prelude.{◌≡◌, ◌≤◌, ◌<◌, ◌^◌, [], ℕ, length, None, Some};
 ghost use Rattle.spec_core.specs.History.{last_state};
 ghost use Rattle.bv_ledger.specs.Answers as A;
+ghost use Rattle.bv_store.specs.Stored.{TakesRing};
 ghost use Rattle.bv_volume.specs.Answers.{HandsBack, settle_reply};
 ghost use Rattle.bv_volume.specs.Events.{Does};
 ghost use Rattle.bv_volume.specs.Seen.{IsSafe};
@@ -77,6 +78,7 @@ impl<'t, S: Store> Volume<'t, S> {
         requires number { (last_state self.old.history self.old.next).next < 2 ^ 62 }
         ensures row { Does self.old self.new who (Act.Settle add.root) (settle_reply result) }
         ensures back { HandsBack result add }
+        ensures ring { TakesRing result self.old.store self.new.store }
         ensures crash { IsSafe self.new }
     {
         let root = add.root;
@@ -122,6 +124,7 @@ impl<'t, S: Store> Volume<'t, S> {
         requires put { HasPut self.old who.session add }
         ensures row { Does self.old self.new who (Act.Settle add.root) (settle_reply result) }
         ensures back { HandsBack result add }
+        ensures ring { TakesRing result self.old.store self.new.store }
         ensures crash { IsSafe self.new }
     {
         let root = add.root;

@@ -28,6 +28,8 @@ use Rattle.bv_volume.proofs.Contents.{keeps_publish}
 use Rattle.bv_volume.proofs.Located.{located_publish}
 use Rattle.bv_volume.proofs.Silent.{CallDone}
 use Rattle.bv_volume.proofs.Ties.{kept_planned}
+use Rattle.bv_volume.specs.Wrote.{RingFalls}
+use Rattle.bv_volume.proofs.Rings.{ring_settled}
 use Rattle.bv_volume.proofs.Sound.{sound_publish}
 use Rattle.bv_volume.proofs.volume.Volume.publish.Goals as goal
 use Rattle.bv_volume.proofs.volume.Volume.publish.Goals.{After-drop-purged}
@@ -209,6 +211,15 @@ returns-clause-row g c =
     rw (← c.self.view_is, c.settle_answer.ensures)
     (subst (λ (v : Seen). Does v (seen_of c.note.new.history i.first c.settled.new.self c.hand_over.new.space (g.S.Store.seen c.commit_store-failed.new.store)) c.args.who (Settle c.args.add.root) (Some (device_reply Published c.commit_store-failed.result)))
     (ap (λ (x : Stored). seen_of i.history i.first i.ledger i.space x) p.is) (done g c).does)
+
+pub returns-clause-ring : goal.returns-clause-ring
+returns-clause-ring g c =
+    let i = c.self.inside in
+    let k = ready g i c.args.add c.self.invariant.0 (admitted_is c.self.inside.history c.self.inside.first c.self.inside.ledger c.self.inside.space (g.S.Store.seen c.self.inside.store) (g.S.Store.both c.self.inside.store) c.args.who.session c.self.invariant.0 c.self.invariant.2 c.args.add (rw (← c.self.view_is) at c.requires.add)) (rw (← c.self.view_is) at c.requires.going) (rw (← c.self.view_is) at c.requires.number) in
+    let p = plan_of g i c.args.add k (g.S.Store.seen c.prepare_entry.new.store) c.setting.result c.setting.ensures c.in-Ok.ensures.planned in
+    rw (← c.self.view_is)
+    (ring_settled c.settle_answer.result c.commit_store-failed.result (g.S.Store.seen i.store) (g.S.Store.seen c.commit_store-failed.new.store) c.settle_answer.ensures
+    (λ none. subst (λ (x : Stored). RingFalls x (g.S.Store.seen c.commit_store-failed.new.store)) p.is (c.commit_store-failed.ensures.ring none)))
 
 pub returns-clause-crash : goal.returns-clause-crash
 returns-clause-crash g c = (done g c).safe

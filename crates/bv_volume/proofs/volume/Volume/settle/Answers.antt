@@ -11,6 +11,7 @@ use Rattle.bv_volume.proofs.Quiet.{silent_quiet}
 use Rattle.bv_volume.proofs.Located.{refusal_unpublished}
 use Rattle.bv_volume.proofs.Silent.{CallDone, quiet_call, refusal_silent}
 use Rattle.bv_volume.proofs.Still.{still}
+use Rattle.bv_volume.proofs.Rings.{ring_refused}
 use Rattle.bv_volume.proofs.Sound.{same_map, sound_silent}
 use Rattle.bv_volume.proofs.volume.Volume.settle.Goals as goal
 use Rattle.bv_volume.proofs.volume.Volume.settle.Goals.{After-settle_refusal}
@@ -64,6 +65,9 @@ invariant_of-self g c =
 
 pub returns-in-Some-clause-row : goal.returns-in-Some-clause-row
 returns-in-Some-clause-row g c = rw (← c.self.view_is, c.settle_refusal.ensures) (done g c).does
+
+pub returns-in-Some-clause-ring : goal.returns-in-Some-clause-ring
+returns-in-Some-clause-ring g c = ring_refused c.settle_refusal.result c.in-Some.refusal c.args.self.now.store (g.S.Store.seen c.self.inside.store) c.settle_refusal.ensures
 
 pub returns-in-Some-clause-crash : goal.returns-in-Some-clause-crash
 returns-in-Some-clause-crash g c = (done g c).safe
