@@ -5,3 +5,8 @@ pub mod Taking
 pub mod Going
 pub mod Results
 pub mod Meeting
+pub mod Mapped
+pub mod Holding
+pub mod Ending
+pub mod Stopping
+pub mod Moving

@@ -1,12 +1,14 @@
 -- The replies that come where nothing fails, and the runs that have only those (this project's
 -- profile).
-use Rattle.std.specs.Prelude.{ℕ, List, All}
+use Rattle.std.specs.Prelude.{◌≡◌, ℕ, List, ◌++◌, None, All}
 use Rattle.spec_faults.specs.Faults.{Rose}
+use Rattle.spec_core.specs.History.{last_state}
 use Rattle.spec_core.specs.declared.act.Act.{Act}
 use Rattle.spec_core.specs.declared.act.Act.TheVariants as acts
 use Rattle.spec_core.specs.declared.event.CoreEvent.{CoreEvent}
 use Rattle.spec_core.specs.declared.reply.Reply.{Reply}
 use Rattle.spec_core.specs.declared.reply.Reply.TheVariants as replies
+use Rattle.spec_seen.specs.Held.{up_to}
 use Rattle.spec_headline.specs.Complete.{HasEnough, WentWell}
 use Rattle.spec_headline.specs.Run.{Run, Ended, MetMismatch}
 
@@ -54,3 +56,10 @@ abbrev pub RunsGoWell : Type 0
 RunsGoWell =
     (run : Run) (next first last : ℕ) → Ended run next first last → ¬ Rose first last
     → HasEnough run.lines run.history next → ¬ MetMismatch run → WentWell run
+
+-- and no write or sync fails: nothing stops the volume after any of its events
+abbrev pub NothingStops : Type 0
+NothingStops =
+    (run : Run) (next first last : ℕ) → Ended run next first last → ¬ Rose first last
+    → HasEnough run.lines run.history next → (xs ys : List CoreEvent)
+    → run.history.events ≡ xs ++ ys → (last_state (up_to run.history xs) next).stopped ≡ None
