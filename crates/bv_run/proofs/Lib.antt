@@ -1,5 +1,6 @@
 -- Lemmas on words, sources, statuses, answers and runs.
 pub mod AskedLemmas
+pub mod CompleteLemmas
 pub mod MakingLemmas
 pub mod RanLemmas
 pub mod RefusedLemmas

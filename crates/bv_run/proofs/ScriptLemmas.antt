@@ -26,6 +26,7 @@ use Rattle.bv_run.specs.Outcomes.{Came, IsOfDevice}
 use Rattle.bv_run.specs.Reports.{NotBegun, OutOfMemory, Done, ReportsRefusal, ReportsRun, printed}
 use Rattle.bv_run.specs.Runs.{RunsScript, Went}
 use Rattle.bv_run.specs.Words.{made_by}
+use Rattle.bv_run.proofs.CompleteLemmas.{runs_script}
 
 -- ---- a whole run is one that begins
 
@@ -104,16 +105,13 @@ some_is x y e = cc e
 
 pub runs_unasked : (form : Form) (refusal : Refusal) (ended : Status) (dev : Seen) (input out : Change) → IsUnasked form refusal input
     → ended ≡ refusal_status refusal → Prints out (refusal_line refusal) → RunsScript form ended dev dev input out
-runs_unasked form refusal ended dev input out un status line = record {
-  answer = NotBegun refusal;
-  asked = refused_at form refusal input un;
-  reports = (status, line);
-  went = record {
-    begins = refused_by (made_by form) form refusal dev input un;
-    holds = tt;
-    told = λ d e is is_new premises. inl (some_is e d (sym is_new ∙ is));
-  };
-}
+runs_unasked form refusal ended dev input out un status line =
+    runs_script form (NotBegun refusal) ended dev dev input out (refused_at form refusal input un) (status, line)
+    (record {
+      begins = refused_by (made_by form) form refusal dev input un;
+      holds = tt;
+      told = λ d e is is_new premises. inl (some_is e d (sym is_new ∙ is));
+    })
 
 -- ---- a refusal by the device
 
@@ -131,18 +129,12 @@ refused_once form refusals.SourceFault input lines asked of = absurd of
 
 pub runs_refused : (form : Form) (refusal : Refusal) (ended : Status) (lines : List ScriptLine) (old new : Seen) (input out : Change) → IsAsked form input lines
     → ended ≡ refusal_status refusal → Prints out (refusal_line refusal) → Came lines (made_by form) (Err refusal) old new → RunsScript form ended old new input out
-runs_refused form refusal ended lines old new input out asked status line (NotBegun r, is, went) = record {
-  answer = NotBegun r;
-  asked = refused_once form r input lines asked is.1;
-  reports = (status ∙ ap refusal_status (sym is.0), subst (λ (x : Refusal). Prints out (refusal_line x)) (sym is.0) line);
-  went = went;
-}
-runs_refused form refusal ended lines old new input out asked status line (OutOfMemory run next, is, went) = record {
-  answer = OutOfMemory run next;
-  asked = subst (IsAsked form input) (sym is.1) asked;
-  reports = (status ∙ ap refusal_status is.0, subst (λ (x : Refusal). Prints out (refusal_line x)) is.0 line);
-  went = went;
-}
+runs_refused form refusal ended lines old new input out asked status line (NotBegun r, is, went) =
+    runs_script form (NotBegun r) ended old new input out (refused_once form r input lines asked is.1)
+    (status ∙ ap refusal_status (sym is.0), subst (λ (x : Refusal). Prints out (refusal_line x)) (sym is.0) line) went
+runs_refused form refusal ended lines old new input out asked status line (OutOfMemory run next, is, went) =
+    runs_script form (OutOfMemory run next) ended old new input out (subst (IsAsked form input) (sym is.1) asked)
+    (status ∙ ap refusal_status is.0, subst (λ (x : Refusal). Prints out (refusal_line x)) is.0 line) went
 runs_refused form refusal ended lines old new input out asked status line (Done run next, is, went) = absurd is
 
 -- ---- a run whose sessions ended
@@ -150,15 +142,8 @@ runs_refused form refusal ended lines old new input out asked status line (Done 
 pub runs_ended : (form : Form) (f : Finished) (ended : Status) (lines : List ScriptLine) (old new : Seen) (input out : Change) → IsAsked form input lines
     → ReportsRefusal refusals.NoMemory ended out ⊎ ReportsRun (printed form (run_of lines f.history.history f.ends.items)) (run_of lines f.history.history f.ends.items) ended out
     → Came lines (made_by form) (Ok f) old new → RunsScript form ended old new input out
-runs_ended form f ended lines old new input out asked (inl short) came = record {
-  answer = OutOfMemory (run_of lines f.history.history f.ends.items) came.1.0;
-  asked = asked;
-  reports = short;
-  went = out_of_memory (made_by form) (run_of lines f.history.history f.ends.items) came.1.0 old new came.1.1;
-}
-runs_ended form f ended lines old new input out asked (inr text) came = record {
-  answer = Done (run_of lines f.history.history f.ends.items) came.1.0;
-  asked = asked;
-  reports = text;
-  went = came.1.1;
-}
+runs_ended form f ended lines old new input out asked (inl short) came =
+    let run : Run = run_of lines f.history.history f.ends.items in
+    runs_script form (OutOfMemory run came.1.0) ended old new input out asked short (out_of_memory (made_by form) run came.1.0 old new came.1.1)
+runs_ended form f ended lines old new input out asked (inr text) came =
+    runs_script form (Done (run_of lines f.history.history f.ends.items) came.1.0) ended old new input out asked text came.1.1

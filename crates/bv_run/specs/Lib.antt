@@ -4,6 +4,7 @@ pub mod Reports
 pub mod Asked
 pub mod Begun
 pub mod Told
+pub mod Complete
 pub mod Runs
 pub mod Work
 pub mod Mounted

@@ -10,6 +10,7 @@ use Rattle.bv_serve.specs.Runs.{Change}
 use Rattle.bv_run.specs.declared.form.Form.{Form}
 use Rattle.bv_run.specs.Asked.{Answers}
 use Rattle.bv_run.specs.Begun.{BeginsBy}
+use Rattle.bv_run.specs.Complete.{Completes}
 use Rattle.bv_run.specs.Reports.{Answer, NotBegun, OutOfMemory, Done, Reports}
 use Rattle.bv_run.specs.Told.{IsTold, Premises}
 use Rattle.bv_run.specs.Words.{made_by}
@@ -42,3 +43,5 @@ pub record RunsScript (form : Form) (ended : Status) (old new : Seen) (input out
     pub reports : Reports form answer ended out
     -- the device and the history
     pub went : Went (made_by form) answer old new
+    -- where nothing fails and there is enough, it ends well
+    pub complete : Completes form answer ended old new input out
