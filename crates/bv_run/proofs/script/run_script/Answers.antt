@@ -1,4 +1,4 @@
-use Rattle.std.proofs.Common.{◌⊎◌, List, Option, Result, Ok, refl, subst}
+use Rattle.std.proofs.Common.{◌⊎◌, List, Option, Result, Ok, Err, refl, subst}
 use Rattle.spec_record.specs.declared.geometry.Geometry.{Geometry}
 use Rattle.spec_session.specs.declared.end.SessionEnd.{SessionEnd}
 use Rattle.spec_headline.specs.Run.{run_of}
@@ -8,7 +8,7 @@ use Rattle.bv_run.specs.Reports.{ReportsRefusal, ReportsRun, printed}
 use Rattle.bv_serve.specs.Runs.{change}
 use Rattle.bv_run.specs.declared.finished.Finished.{Finished}
 use Rattle.bv_run.specs.Outcomes.{Came}
-use Rattle.bv_run.proofs.ScriptLemmas.{runs_ended, runs_unasked, tells_roots}
+use Rattle.bv_run.proofs.ScriptLemmas.{runs_ended, runs_refused, runs_unasked, tells_roots}
 use Rattle.bv_run.proofs.script.run_script.Goals as goal
 
 pub returns-in-Err : goal.returns-in-Err
@@ -29,3 +29,11 @@ returns-in-Ok-run g c =
     ⊎ ReportsRun (printed c.args.form (run_of c.in-Ok.script c.in-Ok-run.run'.history.history es)) (run_of c.in-Ok.script c.in-Ok-run.run'.history.history es)
     c.report.result (change (g.K.Sink.seen c.args.out.now) (g.K.Sink.seen c.report.new.out))) c.deref.ensures.value c.report.ensures)
     (subst (λ (m : Option Geometry). Came c.in-Ok.script m (Ok c.in-Ok-run.run') (g.D.Device.seen c.args.dev) (g.D.Device.seen c.run_on-run.result.1)) c.made.ensures came)
+
+pub returns : goal.returns
+returns g c =
+    let refusal = c.in-Err-run.refusal in
+    let came = subst (λ (r : Result Finished Refusal). Came c.in-Ok.script c.made.result r (g.D.Device.seen c.args.dev) (g.D.Device.seen c.run_on-run.result.1)) c.in-Err-run.is c.run_on-run.ensures in
+    runs_refused c.args.form refusal c.refuse-in-Err-run.result c.in-Ok.script (g.D.Device.seen c.args.dev) (g.D.Device.seen c.run_on-run.result.1) _ (change (g.K.Sink.seen c.args.out.now) (g.K.Sink.seen c.refuse-in-Err-run.new.out))
+    c.in-Ok.ensures.ok c.refuse-in-Err-run.ensures.status c.refuse-in-Err-run.ensures.line
+    (subst (λ (m : Option Geometry). Came c.in-Ok.script m (Err refusal) (g.D.Device.seen c.args.dev) (g.D.Device.seen c.run_on-run.result.1)) c.made.ensures came)
