@@ -238,13 +238,13 @@ fn found(alloc: Global, image: &[Block]) -> Result<Option<(usize, bool)>, AllocE
     let Ok((_, survey)) = inspect_all(alloc, &mut device(alloc, image)?) else {
         return Ok(None);
     };
-    let mut both = 0;
+    let mut has_first = false;
+    let mut has_second = false;
     for blob in &survey.blobs {
-        let is_first = blob.root() == FIRST && blob.size() == 8197 && blob.version() == 1;
-        let is_second = blob.root() == SECOND && blob.size() == 237_468 && blob.version() == 2;
-        both += u32::from(is_first) + u32::from(is_second);
+        has_first |= blob.root() == FIRST && blob.size() == 8197 && blob.version() == 1;
+        has_second |= blob.root() == SECOND && blob.size() == 237_468 && blob.version() == 2;
     }
-    Ok(Some((survey.blobs.len(), both == 2)))
+    Ok(Some((survey.blobs.len(), has_first && has_second)))
 }
 
 /// Whether the first blob is whole, and the second.
