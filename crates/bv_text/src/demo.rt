@@ -7,10 +7,11 @@ ghost use Rattle.spec_core.specs.History.{opening_map};
 ghost use Rattle.spec_session.specs.Demo.{is_add, is_publish, is_purge, summary_line, summary_text};
 ghost use Rattle.spec_tree.specs.Order.{digest_cmp};
 
+use crate::blobs::blobs_after;
+use crate::machine::core_after;
 use bv_model::History;
 use bv_script::Script;
 use itoa::Buffer;
-use plain_core::{blobs_after, logged_of};
 use spec_core::MapChange;
 use spec_script::{Command, Digest, ScriptLine};
 use spec_tree::Blob;
@@ -108,8 +109,8 @@ pub fn summary(
     ensures { IfOk result (λ text. text.items
         ≡ summary_text rounds script.now history.now.history) }
 {
-    let logged = logged_of(alloc, history)?;
-    let changes = logged.changes.as_slice();
+    let core = core_after(alloc, history)?;
+    let changes = core.changes();
     let blobs = blobs_after(alloc, history, changes)?;
     let bytes = bytes_of(alloc, &blobs)?;
     let mut out = Vec::new(alloc);
