@@ -48,15 +48,15 @@ goes_does version lines s true es rs g = serve_does version [] (requests_of s li
 goes_does version lines s false es rs g = (g.0, g.1, g.2, g.3, g.4, g.5, serve_does version [] g.0 g.2 rs g.6, g.7)
 
 -- a session's requests, of two lists of lines
-requests-append : (s : ℕ) (xs ys : List ScriptLine) → requests_of s (xs ++ ys) ≡ requests_of s xs ++ requests_of s ys
+pub requests-append : (s : ℕ) (xs ys : List ScriptLine) → requests_of s (xs ++ ys) ≡ requests_of s xs ++ requests_of s ys
 requests-append s xs ys = ap (λ ls. map request_of ls) (filter-append (λ (l : ScriptLine). l.session == s) xs ys) ∙ map-append request_of _ _
 
 -- a line of this session is a request of it
-request_yes : (s : ℕ) (l : ScriptLine) → l.session ≡ s → requests_of s (l ∷ []) ≡ request_of l ∷ []
+pub request_yes : (s : ℕ) (l : ScriptLine) → l.session ≡ s → requests_of s (l ∷ []) ≡ request_of l ∷ []
 request_yes s l is = let e : (l.session == s) ≡ true = eq-eqb l.session s is in rw e refl
 
 -- a line of another session isn't
-request_no : (s : ℕ) (l : ScriptLine) → ¬ (l.session ≡ s) → requests_of s (l ∷ []) ≡ []
+pub request_no : (s : ℕ) (l : ScriptLine) → ¬ (l.session ≡ s) → requests_of s (l ∷ []) ≡ []
 request_no s l other = let e : (l.session == s) ≡ false = ne_eqb l.session s other in rw e refl
 
 module _ (version s : ℕ) (lines : List ScriptLine) (i : ℕ) (d : ScriptLine) (low : i < length lines) where

@@ -15,12 +15,13 @@ use Rattle.bv_session.specs.declared.serves.Answer.TheVariants.{Done, Refused}
 use Rattle.bv_session.specs.declared.serves.Outcome.{Outcome}
 use Rattle.bv_session.specs.declared.serves.Outcome.TheVariants as outcomes
 use Rattle.bv_session.specs.Events.{reply_by, reply_or, IfDone, IfRefused, IfRefuses, IsRefusal}
-use Rattle.bv_session.specs.Sessions.{Gains, Since, Stays}
+use Rattle.bv_session.specs.Sessions.{Gains, Grows, Since, Stays}
 use Rattle.bv_session.specs.declared.entry.Entry.{Entry}
 use Rattle.bv_session.specs.declared.entry.Basis.{Basis}
 use Rattle.bv_turn.specs.declared.keeps.Keeps.{Ghosts}
 use Rattle.bv_turn.specs.declared.turn.Share.{Share}
 use Rattle.bv_turn.specs.declared.turn.Turn.{Turn}
+use Rattle.bv_turn.specs.Tokens.{list_of}
 
 append_nil : {A : Type 0} (xs : List A) → xs ≡ xs ++ []
 append_nil [] = refl
@@ -138,4 +139,11 @@ stays_join t old mid new s n = record {
   idle = n.idle;
   session = n.session ∙ s.session;
   basis = n.basis ∙ s.basis;
-}
+  grows = grows_join s.grows n.grows;
+} where
+  grows_join : Grows (list_of old) (list_of mid) → Grows (list_of mid) (list_of new) → Grows (list_of old) (list_of new)
+  grows_join a b = (a.0 ++ b.0, b.1 ∙ ap (λ (xs : List Entry). xs ++ b.0) a.1 ∙ append_assoc (list_of old) a.0 b.0)
+
+-- a share that was left as it is
+pub grows_not : {A : Type 0} (xs : List A) → xs ≡ xs ++ []
+grows_not xs = append_nil xs

@@ -132,3 +132,8 @@ open_refused version who slot root q r old now h g is = record {
   answers : (q : Reply) → IsRefusal q → IsReply q r → Answers old (Open slot root) ((Open slot root, q) ∷ []) r
   answers (Opened n) h is = absurd h
   answers _ h is = is
+
+-- what a shut answers
+pub shut_result : (P : LineResult → Type 0) (answer : LineAnswer) (found : LineResult) → IfOk answer (λ x. (x ≡ found) × P x) → IfOk answer (λ x. x ≡ found)
+shut_result P (Ok x) found h = h.0
+shut_result P (Err e) found h = tt

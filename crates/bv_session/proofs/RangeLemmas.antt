@@ -73,6 +73,13 @@ knows_more old new first w keeps known here k low high = elim (cases_lt k w) [
 pub finds_known : (who : Who) (slot w : ℕ) (new : Reading) (o : Option LineResult) (old now : List CoreEvent) → Finds who slot w new (Ok o) old now → o ≡ None → IsSome (known_at new w) × MayFetch who slot w old now
 finds_known who slot w new o old now h is = subst (λ (x : Option LineResult). Finds who slot w new (Ok x) old now) is h
 
+-- what is known of a range once no line ended
+pub range_found : (who : Who) (slot first begin past end : ℕ) (new : Reading) (o : Option LineResult) (old now : List CoreEvent) → first ≡ begin → past ≡ end → FindsRange who slot first past new (Ok o) old now → o ≡ None → KnowsBetween new begin end
+range_found who slot first begin past end new o old now f p h is =
+    let found : FindsRange who slot begin end new (Ok None) old now =
+    subst (λ (x : ℕ × ℕ × Option LineResult). FindsRange who slot x.0 x.1 new (Ok x.2) old now) (λ i. (f i, p i, is i)) h in
+    found.0
+
 -- a window at which the line ends
 pub range_failed : (who : Who) (slot first past w : ℕ) (new : Reading) (o : Option LineResult) (r : LineResult) (old mid now : List CoreEvent) → first ≤ w → w < past → FetchesSome who slot first w old mid
     → Finds who slot w new (Ok o) mid now → o ≡ Some r → FindsRange who slot first past new (Ok (Some r)) old now

@@ -20,7 +20,7 @@ use Rattle.spec_tree.specs.Tree.{windows_of}
 use Rattle.spec_window.specs.declared.mismatch.Mismatch.{Mismatch}
 use Rattle.spec_window.specs.Mismatch.{comparisons, fails, first_mismatch}
 use Rattle.spec_window.specs.Page.{Page}
-use Rattle.bv_pager.specs.Reading.{AnswersLoad, FitsIn, IsReading, Reading, known_at, with_page}
+use Rattle.bv_pager.specs.Reading.{AnswersLoad, FitsIn, IsReading, Reading, known_at, page_in, with_page}
 use Rattle.bv_pager.specs.declared.fault.LoadFault.{LoadFault}
 use Rattle.bv_pager.specs.declared.fault.LoadFault.TheVariants as loads
 use Rattle.bv_proof.specs.declared.raw.RawWindow.{RawWindow}
@@ -150,6 +150,10 @@ module _ (old new : Reading) (w : ℕ) (p : Page) (same : new ≡ with_page old 
 -- a load that found a mismatch
 pub load_apart : (r : Reading) (raw : RawWindow) (fault : LoadFault) (m : Mismatch) → AnswersLoad r raw (Err fault) → fault ≡ loads.Mismatch m → ¬ (m.wanted ≡ m.found)
 load_apart r raw fault m h is = mismatch_apart _ m (subst (λ (f : LoadFault). AnswersLoad r raw (Err f)) is h)
+
+-- and which it was
+pub load_first : (r : Reading) (raw : RawWindow) (fault : LoadFault) (m : Mismatch) → AnswersLoad r raw (Err fault) → fault ≡ loads.Mismatch m → first_mismatch (page_in r raw) ≡ Some m
+load_first r raw fault m h is = subst (λ (f : LoadFault). AnswersLoad r raw (Err f)) is h
 
 -- a reader that is as it was knows what it knew
 pub same_keeps : (old new : Reading) → new ≡ old → KeepsKnown old new

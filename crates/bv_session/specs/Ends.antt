@@ -17,6 +17,7 @@ use Rattle.bv_turn.specs.Tokens.{IsOf, IsIdle, session_of, list_of}
 use Rattle.bv_session.specs.declared.entry.Entry.{Entry}
 use Rattle.bv_session.specs.declared.entry.Basis.{Basis}
 use Rattle.bv_session.specs.declared.session.Ended.{Ended}
+use Rattle.bv_session.specs.Shown.{LinesShow}
 use Rattle.bv_session.specs.Sessions.{own, LineAnswer, BasisHas, Stays, Ends}
 
 -- a session's events: all its lines were done, or for want of memory some first ones and a beginning
@@ -71,6 +72,7 @@ module _ {T : Type 0} {k : Ghosts T Entry Basis} where
     pub stays : Stays t old new
     pub does : Does version lines (session_of old) (not end.memory) (own new)
     pub goes : Goes version lines (session_of old) (not end.memory) (own new) end.results.items
+    pub shows : LinesShow version lines (session_of old) new end.results.items
 
   -- what a session's run gives back
   abbrev pub EndOf

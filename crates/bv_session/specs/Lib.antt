@@ -3,6 +3,8 @@ pub mod Adds
 pub mod Disk
 pub mod Ends
 pub mod Events
+pub mod Pages
 pub mod Sessions
+pub mod Shown
 pub mod Windows
 pub mod Written

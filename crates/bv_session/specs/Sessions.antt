@@ -18,6 +18,10 @@ use Rattle.bv_session.specs.Events.{events_in}
 
 -- ---- lists of a session's events
 
+-- some entries more, or none
+abbrev pub Grows : List Entry → List Entry → Type 0
+Grows old new = (more : List Entry) × (new ≡ old ++ more)
+
 -- exactly one event more, by this session and line
 abbrev pub Gains : Who → Act → Reply → List CoreEvent → List CoreEvent → Type 0
 Gains who act reply old new =
@@ -74,9 +78,10 @@ module _ {T : Type 0} {k : Ghosts T Entry Basis} where
   abbrev pub BasisHas : Share T Entry Basis k → (Basis → Type 0) → Type 0
   BasisHas s P = IfSome (basis_of s) P
 
-  -- the same share, idle again
+  -- the same share, idle again, with some entries more
   pub record Stays (t : Turn T Entry Basis) (old new : Share T Entry Basis k) : Type 0 where
     pub this : IsOf t new
     pub idle : IsIdle new
     pub session : session_of new ≡ session_of old
     pub basis : basis_of new ≡ basis_of old
+    pub grows : Grows (list_of old) (list_of new)

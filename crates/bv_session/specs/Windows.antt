@@ -1,5 +1,5 @@
 -- What a session's reader comes to know, and by which events.
-use Rattle.std.specs.Prelude.{◌≡◌, ℕ, ◌<◌, ◌≤◌, ◌⊎◌, List, [], ◌∷◌, ◌++◌, Option, Some, None, IsSome, Result, Ok, Err}
+use Rattle.std.specs.Prelude.{◌≡◌, ℕ, ◌<◌, ◌≤◌, ◌⊎◌, List, [], ◌∷◌, ◌++◌, length, Option, Some, None, IsSome, Result, Ok, Err}
 use Rattle.std.specs.declared.alloc.AllocError.{AllocError}
 use Rattle.spec_core.specs.declared.act.Act.TheVariants.{Fetch}
 use Rattle.spec_core.specs.declared.event.CoreEvent.{CoreEvent}
@@ -10,9 +10,11 @@ use Rattle.spec_session.specs.Lines.{RiseFrom, fetches}
 use Rattle.spec_session.specs.declared.result.LineResult.{LineResult}
 use Rattle.spec_session.specs.declared.result.LineResult.TheVariants as results
 use Rattle.spec_served.specs.Answers.{Known}
+use Rattle.spec_window.specs.Mismatch.{first_mismatch}
 use Rattle.spec_window.specs.Page.{Page}
 use Rattle.bv_pager.specs.Range.{bytes_at}
-use Rattle.bv_pager.specs.Reading.{Reading, known_at}
+use Rattle.bv_pager.specs.Reading.{Reading, known_at, page_in, with_page}
+use Rattle.bv_proof.specs.declared.raw.RawWindow.{RawWindow}
 use Rattle.bv_session.specs.Sessions.{Since}
 
 -- a reader of the same blob, which still knows what it knew
@@ -31,6 +33,18 @@ abbrev pub Loads : ℕ → Reading → Result (Option LineResult) AllocError →
 Loads w new (Ok None) = IsSome (known_at new w)
 Loads w new (Ok (Some r)) = IsMismatch r
 Loads w new (Err e) = Unit {0}
+
+-- the result is the first mismatch of this page
+abbrev pub IsFirst : Page → LineResult → Type 0
+IsFirst page (results.Mismatch m) = first_mismatch page ≡ Some m
+IsFirst page r = ⊥
+
+-- what a load makes of a reader: it knows the page too, or it is as it was
+abbrev pub Made : Reading → RawWindow → Reading → Result (Option LineResult) AllocError → Type 0
+Made old raw new (Ok None) =
+    (raw.window < length old.known) × (new ≡ with_page old raw.window (page_in old raw))
+Made old raw new (Ok (Some r)) = (new ≡ old) × IsFirst (page_in old raw) r
+Made old raw new (Err e) = new ≡ old
 
 -- the reply of a fetch after which a line ends with this result
 abbrev pub FailsBy : Reply → LineResult → Type 0

@@ -1,13 +1,15 @@
 //! A line of a session.
-ghost use Rattle.std.specs.Prelude.{◌≡◌, ◌≤◌, ◌⊎◌, None};
+ghost use Rattle.std.specs.Prelude.{◌≡◌, ◌≤◌, ◌⊎◌, None, OnOk};
 ghost use Rattle.spec_script.specs.Lawful.{IsLine};
 ghost use Rattle.spec_script.specs.Limits.{word_len};
 ghost use Rattle.spec_script.specs.Tasks.{task_of};
 ghost use Rattle.spec_script.specs.declared.command.Command.TheVariants.{Add};
 ghost use Rattle.spec_session.specs.Own.{add_of};
-ghost use Rattle.spec_session.specs.Conform.{own_act};
+ghost use Rattle.spec_session.specs.Conform.{own_act, request_of};
 ghost use Rattle.spec_session.specs.Told.{who_of};
+ghost use Rattle.bv_session.specs.Pages.{SlotsKnow};
 ghost use Rattle.bv_session.specs.Sessions.{own, BasisHas, IsFor, Stays, Ends};
+ghost use Rattle.bv_session.specs.Shown.{Shows};
 
 use crate::LineResult;
 use crate::adding::add;
@@ -44,10 +46,13 @@ pub fn run_line<R: Wait, T: Serves, G: Gate>(
     requires version { (version ≡ 1) ⊎ (version ≡ 2) }
     requires lawful { IsLine line.now }
     requires idle { add_of (own share.old) ≡ None }
+    requires slots { SlotsKnow share.old slots.old.pages.items }
     ensures stays { Stays turn.now share.old share.new }
     ensures line { Ends version (who_of line.now) (own_act (task_of line.now.command)) result
         (own share.old) (own share.new) }
     ensures idle { add_of (own share.new) ≡ None }
+    ensures slots { OnOk result (SlotsKnow share.new slots.new.pages.items) }
+    ensures shows { Shows share.old share.new (request_of line.now) result }
 {
     let who = Who {
         session: line.session,

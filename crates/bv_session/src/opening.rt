@@ -1,11 +1,13 @@
 //! An open line: the slot holds a blob, and its last window is verified before the line answers.
 
-ghost use Rattle.std.specs.Prelude.{◌≡◌, ℕ, ◌+◌, ◌<◌, [], ◌∷◌, Some, IfOk, IfSome, OnErr};
+ghost use Rattle.std.specs.Prelude.{◌≡◌, ℕ, ◌+◌, ◌<◌, [], ◌∷◌, Some, IfOk, IfSome, OnErr, OnOk};
 ghost use Rattle.spec_core.specs.declared.act.Act.TheVariants.{Close, Open};
 ghost use Rattle.spec_core.specs.declared.reply.Reply.{Reply};
 ghost use Rattle.spec_core.specs.declared.reply.Reply.TheVariants.{Opened};
 ghost use Rattle.spec_session.specs.Own.{add_of, slot_holds};
+ghost use Rattle.bv_session.specs.Pages.{IsKept, ReaderKnows, SameBut, SlotKnows};
 ghost use Rattle.bv_session.specs.Sessions.{own, Gains, IsFor, Stays, Ends, EndsAfter};
+ghost use Rattle.bv_session.specs.Shown.{Shows, SlotShows, open_range};
 
 use crate::reply::result_of;
 use crate::serves::{Answer, Serves};
@@ -35,10 +37,14 @@ pub fn open<R: Wait, T: Serves, G: Gate>(
 ) -> Result<LineResult, AllocError>
     requires ready { IsFor turn.now who share.old }
     requires slot { slot < 64 }
+    requires pages { SlotKnows slot share.old slots.old.pages.items }
     ensures stays { Stays turn.now share.old share.new }
     ensures line { (version : ℕ) → Ends version who (Open slot root) result
         (own share.old) (own share.new) }
     ensures idle { add_of (own share.new) ≡ add_of (own share.old) }
+    ensures slots { OnOk result (SlotKnows slot share.new slots.new.pages.items) }
+    ensures others { SameBut slot slots.old.pages.items slots.new.pages.items }
+    ensures shows { Shows share.old share.new (who, Open slot root) result }
 {
     let answer = match steps::open(rt, turn, share, who, alloc, slot, root) {
         Ok(answer) => answer,
@@ -64,7 +70,8 @@ pub(crate) fn reader_of(
     kept: Option<Reader>,
 ) -> Result<Reader, AllocError>
     requires { IfSome kept (λ reader. (reader.root ≡ root) × (reader.size ≡ size)) }
-    ensures { IfOk result (λ reader. (reader.root ≡ root) × (reader.size ≡ size)) }
+    ensures named { IfOk result (λ reader. (reader.root ≡ root) × (reader.size ≡ size)) }
+    ensures kept { IfOk result (λ reader. IsKept kept reader) }
 {
     match kept {
         Some(reader) => Ok(reader),
@@ -93,23 +100,32 @@ fn know_last<R: Wait, T: Serves, G: Gate>(
     requires ready { IsFor turn.now who share.old }
     requires slot { slot < 64 }
     requires holds { slot_holds slot (own share.old) ≡ Some (reader.root, reader.size) }
+    requires pages { ReaderKnows slot share.old reader }
     ensures stays { Stays turn.now share.old share.new }
     ensures line { (version : ℕ) → EndsAfter version [] who (Open slot reader.root)
         ((Open slot reader.root, Opened reader.size) ∷ []) result (own share.old) (own share.new) }
     ensures idle { add_of (own share.new) ≡ add_of (own share.old) }
+    ensures slots { OnOk result (SlotKnows slot share.new slots.new.pages.items) }
+    ensures others { SameBut slot slots.old.pages.items slots.new.pages.items }
+    ensures shows { SlotShows slot (reader.root, reader.size) (open_range reader.size)
+        share.old share.new result }
 {
     let last = windows(reader.size()) - 1;
     let found = match know_window(rt, alloc, turn, share, who, slot, &mut reader, last, gate) {
         Ok(found) => found,
         Err(error) => return Err(error),
     };
+    let size = reader.size();
     match found {
         None => {
-            let size = reader.size();
             slots.put(slot, reader);
             Ok(LineResult::Opened { size })
         }
-        Some(result) => shut(rt, alloc, turn, share, who, slot, result),
+        Some(result) => {
+            // What stands there is of a blob that the slot held before.
+            let _before = slots.take(slot);
+            shut(rt, alloc, turn, share, who, slot, result)
+        }
     }
 }
 

@@ -1,6 +1,7 @@
 //! The lines that are one event.
-ghost use Rattle.std.specs.Prelude.{◌≡◌};
+ghost use Rattle.std.specs.Prelude.{◌≡◌, IfSome};
 ghost use Rattle.spec_core.specs.declared.act.Act.TheVariants.{Close, Unlink, Sync, List as ListAll};
+ghost use Rattle.bv_session.specs.Pages.{ReaderKnows};
 ghost use Rattle.bv_session.specs.Sessions.{own, IsFor, Stays, DoesOne};
 
 use crate::reply::result_of;
@@ -69,6 +70,7 @@ pub fn close<R: Wait, T: Serves>(
     pages: Option<Reader>,
 ) -> Result<LineResult, AllocError>
     requires ready { IsFor turn.now who share.old }
+    requires pages { IfSome pages (λ r. ReaderKnows slot share.old r) }
     ensures stays { Stays turn.now share.old share.new }
     ensures line { DoesOne who (Close slot) result (own share.old) (own share.new) }
 {

@@ -1,7 +1,7 @@
 //! Read and scan lines: the windows that the reader doesn't know are fetched and verified, in their
 //! order.
 
-ghost use Rattle.std.specs.Prelude.{◌≡◌, ℕ, ◌+◌, ◌<◌, ◌≤◌, List, Some, IfOk, IfSome, min};
+ghost use Rattle.std.specs.Prelude.{◌≡◌, ℕ, ◌+◌, ◌<◌, ◌≤◌, List, Some, IfOk, IfSome, OnOk, min};
 ghost use Rattle.spec_core.specs.declared.act.Act.TheVariants.{Read, Scan};
 ghost use Rattle.spec_core.specs.declared.event.CoreEvent.{CoreEvent};
 ghost use Rattle.spec_core.specs.declared.reply.Reply.TheVariants.{Reading};
@@ -12,7 +12,9 @@ ghost use Rattle.spec_served.specs.Answers.{read_of};
 ghost use Rattle.spec_served.specs.Device.{IsBytes};
 ghost use Rattle.bv_pager.specs.Reading.{IsReading};
 ghost use Rattle.bv_session.specs.Windows.{KnowsBetween, known_of};
+ghost use Rattle.bv_session.specs.Pages.{IsKept, ReaderKnows, SameBut, SlotKnows, reader_at};
 ghost use Rattle.bv_session.specs.Sessions.{own, Gains, IsFor, Stays, Ends};
+ghost use Rattle.bv_session.specs.Shown.{Shows, SlotShows, read_range, scan_range};
 
 use crate::opening::reader_of;
 use crate::reply::result_of;
@@ -45,10 +47,14 @@ pub fn scan<R: Wait, T: Serves, G: Gate>(
 ) -> Result<LineResult, AllocError>
     requires ready { IsFor turn.now who share.old }
     requires slot { slot < 64 }
+    requires pages { SlotKnows slot share.old slots.old.pages.items }
     ensures stays { Stays turn.now share.old share.new }
     ensures line { (version : ℕ) → Ends version who (Scan slot) result
         (own share.old) (own share.new) }
     ensures idle { add_of (own share.new) ≡ add_of (own share.old) }
+    ensures slots { OnOk result (SlotKnows slot share.new slots.new.pages.items) }
+    ensures others { SameBut slot slots.old.pages.items slots.new.pages.items }
+    ensures shows { Shows share.old share.new (who, Scan slot) result }
 {
     let act = Act::Scan { slot };
     let answer = match steps::look(rt, turn, share, who, alloc, slot, act) {
@@ -83,12 +89,17 @@ fn scan_with<R: Wait, T: Serves, G: Gate>(
     requires ready { IsFor turn.now who share.old }
     requires slot { slot < 64 }
     requires holds { slot_holds slot (own share.old) ≡ Some (reader.root, reader.size) }
+    requires pages { ReaderKnows slot share.old reader }
     ensures stays { Stays turn.now share.old share.new }
     ensures line { (version : ℕ) (start : List CoreEvent)
         → slot_holds slot start ≡ Some (reader.root, reader.size)
         → Gains who (Scan slot) Reading start (own share.old)
         → Ends version who (Scan slot) result start (own share.new) }
     ensures idle { add_of (own share.new) ≡ add_of (own share.old) }
+    ensures slots { OnOk result (SlotKnows slot share.new slots.new.pages.items) }
+    ensures others { SameBut slot slots.old.pages.items slots.new.pages.items }
+    ensures shows { SlotShows slot (reader.root, reader.size) (scan_range reader.size)
+        share.old share.new result }
 {
     let past = windows(reader.size());
     let found = match know_range(
@@ -129,11 +140,15 @@ pub fn read<R: Wait, T: Serves, G: Gate>(
 ) -> Result<LineResult, AllocError>
     requires ready { IsFor turn.now who share.old }
     requires slot { slot < 64 }
+    requires pages { SlotKnows slot share.old slots.old.pages.items }
     requires len { len ≤ 65536 }
     ensures stays { Stays turn.now share.old share.new }
     ensures line { (version : ℕ) → Ends version who (Read slot off len) result
         (own share.old) (own share.new) }
     ensures idle { add_of (own share.new) ≡ add_of (own share.old) }
+    ensures slots { OnOk result (SlotKnows slot share.new slots.new.pages.items) }
+    ensures others { SameBut slot slots.old.pages.items slots.new.pages.items }
+    ensures shows { Shows share.old share.new (who, Read slot off len) result }
 {
     let act = Act::Read { slot, off, len };
     let answer = match steps::look(rt, turn, share, who, alloc, slot, act) {
@@ -173,12 +188,17 @@ fn read_with<R: Wait, T: Serves, G: Gate>(
     requires slot { slot < 64 }
     requires len { len ≤ 65536 }
     requires holds { slot_holds slot (own share.old) ≡ Some (reader.root, reader.size) }
+    requires pages { ReaderKnows slot share.old reader }
     ensures stays { Stays turn.now share.old share.new }
     ensures line { (version : ℕ) (start : List CoreEvent)
         → slot_holds slot start ≡ Some (reader.root, reader.size)
         → Gains who (Read slot off len) Reading start (own share.old)
         → Ends version who (Read slot off len) result start (own share.new) }
     ensures idle { add_of (own share.new) ≡ add_of (own share.old) }
+    ensures slots { OnOk result (SlotKnows slot share.new slots.new.pages.items) }
+    ensures others { SameBut slot slots.old.pages.items slots.new.pages.items }
+    ensures shows { SlotShows slot (reader.root, reader.size) (read_range reader.size off len)
+        share.old share.new result }
 {
     let (first, past) = windows_read(reader.size(), off, len);
     let found = match know_range(
@@ -196,13 +216,14 @@ fn read_with<R: Wait, T: Serves, G: Gate>(
         Ok(found) => found,
         Err(error) => return Err(error),
     };
+    let size = reader.size();
     match found {
         Some(result) => {
             slots.put(slot, reader);
             Ok(result)
         }
         None => {
-            let given = bytes_of(alloc, &reader, off, len);
+            let given = bytes_of(alloc, &reader, size, off, len);
             slots.put(slot, reader);
             given
         }
@@ -226,15 +247,22 @@ fn windows_read(size: u64, off: u64, len: u64) -> (u64, u64)
 }
 
 // The bytes of a read, all windows of which are known.
-fn bytes_of(alloc: Global, reader: &Reader, off: u64, len: u64) -> Result<LineResult, AllocError>
+fn bytes_of(
+    alloc: Global,
+    reader: &Reader,
+    size: u64,
+    off: u64,
+    len: u64,
+) -> Result<LineResult, AllocError>
+    requires size { size ≡ reader.now.size }
+    requires reading { IsReading reader.now }
     requires len { len ≤ 65536 }
     requires known { KnowsBetween reader.now (read_windows reader.now.size off len).first
         (read_windows reader.now.size off len).past }
     ensures bytes { IfOk result
         (λ r. IsBytes (read_of reader.now.size (known_of reader.now) off len) r) }
-    ensures reading { IsReading reader.now }
 {
-    if reader.size() <= off || len == 0 {
+    if size <= off || len == 0 {
         return Ok(LineResult::Bytes(Vec::new(alloc)));
     }
     let fault = match reader.read(alloc, off, len) {
@@ -256,14 +284,17 @@ fn taken(
     size: u64,
 ) -> Result<Reader, AllocError>
     requires { slot < 64 }
-    ensures { IfOk result (λ reader. (reader.root ≡ root) × (reader.size ≡ size)) }
+    ensures named { IfOk result (λ reader. (reader.root ≡ root) × (reader.size ≡ size)) }
+    ensures kept { IfOk result (λ reader. IsKept (reader_at slots.old.pages.items slot) reader) }
+    ensures others { SameBut slot slots.old.pages.items slots.new.pages.items }
 {
     reader_of(alloc, root, size, of_blob(slots.take(slot), root, size))
 }
 
 // A reader, where it is of this blob.
 fn of_blob(reader: Option<Reader>, root: Digest, size: u64) -> Option<Reader>
-    ensures { IfSome result (λ reader. (reader.root ≡ root) × (reader.size ≡ size)) }
+    ensures named { IfSome result (λ reader. (reader.root ≡ root) × (reader.size ≡ size)) }
+    ensures same { IfSome result (λ found. reader ≡ Some found) }
 {
     match reader {
         Some(reader) => {

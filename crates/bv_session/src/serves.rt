@@ -13,7 +13,8 @@ ghost use Rattle.bv_turn.specs.Entries.{entries_of};
 ghost use Rattle.bv_writer.specs.Blocks.{IsBlobOf};
 ghost use Rattle.bv_session.specs.Events.{own_events, history_of, Notes, NotesAs, IfRefused, IsReadFault, IsRefusal, IfDone, IfRefuses, reply_by, reply_or, IsUnderWay, IsLook, put_by};
 ghost use Rattle.bv_session.specs.Written.{Wrote, written};
-ghost use Rattle.bv_session.specs.Disk.{IsOnDisk, EachAfter, EachTells, EachLists};
+ghost use Rattle.bv_session.specs.Pages.{SlotFrom};
+ghost use Rattle.bv_session.specs.Disk.{AreThere, IsOnDisk, EachAfter, EachTells, EachLists};
 ghost use Rattle.bv_pager.specs.Reading.{FitsIn};
 
 use crate::entry::{Basis, Entry};
@@ -172,8 +173,9 @@ pub trait Serves: Keeps<Entry = Entry, Basis = Basis> {
     ) -> Result<Answer<(u64, Option<Reader>)>, AllocError>
         requires slot { slot < 64 }
         ensures basis { Self.basis self.new ≡ Self.basis self.old }
-        ensures ok { IfOk result (λ a. Notes (Self.entries self.old) (Self.entries self.new) who
-            (Open slot root) (reply_by (λ x. Opened x.0) a)) }
+        ensures ok { IfOk result (λ a. NotesAs (Self.entries self.old) (Self.entries self.new) who
+            (Open slot root) (reply_by (λ x. Opened x.0) a)
+            (λ e. IfDone a (λ x. IfSome x.1 (AreThere (Self.basis self.old) e)))) }
         ensures done { IfOk result (λ a. IfDone a (λ x.
             IfSome x.1 (λ p. (p.root ≡ root) × (p.size ≡ x.0)))) }
         ensures refused { IfOk result (λ a. IfRefused a IsRefusal) }
@@ -187,6 +189,8 @@ pub trait Serves: Keeps<Entry = Entry, Basis = Basis> {
         slot: u32,
         pages: Option<Reader>,
     ) -> Result<Outcome, AllocError>
+        requires pages { IfSome pages (λ r. SlotFrom (Self.basis self.old) slot r
+            (entries_of Self.session who.session (Self.entries self.old))) }
         ensures basis { Self.basis self.new ≡ Self.basis self.old }
         ensures ok { IfOk result (λ a. Notes (Self.entries self.old) (Self.entries self.new) who
             (Close slot) (reply_or Closed a)) }

@@ -1,10 +1,12 @@
 //! One session: its lines in order.
-ghost use Rattle.std.specs.Prelude.{◌≡◌, ◌⊎◌, None, []};
+ghost use Rattle.std.specs.Prelude.{◌≡◌, ◌⊎◌, None, [], true};
 ghost use Rattle.spec_script.specs.Lawful.{AreLawful, IsLine};
 ghost use Rattle.spec_session.specs.Own.{add_of};
 ghost use Rattle.bv_turn.specs.Tokens.{IsOf, IsIdle, session_of};
 ghost use Rattle.bv_session.specs.Ends.{IsReady, EndOf, Goes, GoesLine};
+ghost use Rattle.bv_session.specs.Pages.{SlotsKnow};
 ghost use Rattle.bv_session.specs.Sessions.{own, BasisHas, Stays};
+ghost use Rattle.bv_session.specs.Shown.{LinesShow, ShowsNext};
 
 use crate::line::run_line;
 use crate::serves::Serves;
@@ -79,6 +81,8 @@ fn do_all<R: Wait, T: Serves, G: Gate>(
     ensures stays { Stays turn.now share.old share.new }
     ensures goes { Goes version lines.now (session_of share.old) result (own share.new)
         results.new.items }
+    ensures shows { LinesShow version lines.now (session_of share.old) share.new
+        results.new.items }
 {
     let mut slots = match Slots::new(alloc) {
         Ok(slots) => slots,
@@ -105,8 +109,11 @@ fn do_lines<R: Wait, T: Serves, G: Gate>(
     requires ready { IsReady turn.now claims.now version share.old }
     requires lawful { AreLawful lines.now }
     requires none { results.old.items ≡ [] }
+    requires slots { SlotsKnow share.old slots.old.pages.items }
     ensures stays { Stays turn.now share.old share.new }
     ensures goes { Goes version lines.now (session_of share.old) result (own share.new)
+        results.new.items }
+    ensures shows { LinesShow version lines.now (session_of share.old) share.new
         results.new.items }
 {
     for line in lines {
@@ -139,10 +146,14 @@ fn do_line<R: Wait, T: Serves, G: Gate>(
     requires version { (version ≡ 1) ⊎ (version ≡ 2) }
     requires lawful { IsLine line.now }
     requires idle { add_of (own share.old) ≡ None }
+    requires slots { SlotsKnow share.old slots.old.pages.items }
     ensures stays { Stays turn.now share.old share.new }
     ensures line { GoesLine version (session_of share.old) line.now result
         (own share.old) (own share.new) results.old.items results.new.items }
     ensures idle { add_of (own share.new) ≡ None }
+    ensures slots { result ≡ true → SlotsKnow share.new slots.new.pages.items }
+    ensures shows { ShowsNext version (session_of share.old) line.now result
+        share.old share.new results.old.items results.new.items }
 {
     if line.session != share.session() {
         return true;

@@ -1,6 +1,7 @@
 //! The pages of a session's open slots.
 
-ghost use Rattle.std.specs.Prelude.{◌≡◌, ◌<◌, vec_len};
+ghost use Rattle.std.specs.Prelude.{◌≡◌, ◌<◌, vec_len, IfOk, None, Some, replicate};
+ghost use Rattle.bv_session.specs.Pages.{SameBut, reader_at};
 
 use bv_pager::Reader;
 use std::alloc::{AllocError, Global};
@@ -17,7 +18,9 @@ pub struct Slots {
 
 impl Slots {
     /// No slot has pages.
-    pub fn new(alloc: Global) -> Result<Slots, AllocError> {
+    pub fn new(alloc: Global) -> Result<Slots, AllocError>
+        ensures { IfOk result (λ s. s.pages.items ≡ replicate 64 None) }
+    {
         let mut pages = Vec::with_capacity(alloc, SLOTS as usize)?;
         for _ in 0..SLOTS {
             pages.push_reserved(None);
@@ -28,6 +31,9 @@ impl Slots {
     /// Takes the pages of a slot out.
     pub fn take(&mut self, slot: u32) -> Option<Reader>
         requires { slot < 64 }
+        ensures taken { result ≡ reader_at self.old.pages.items slot }
+        ensures none { reader_at self.new.pages.items slot ≡ None }
+        ensures others { SameBut slot self.old.pages.items self.new.pages.items }
     {
         self.pages[slot as usize].take()
     }
@@ -35,6 +41,8 @@ impl Slots {
     /// Puts the pages of a slot in.
     pub fn put(&mut self, slot: u32, pages: Reader)
         requires { slot < 64 }
+        ensures here { reader_at self.new.pages.items slot ≡ Some pages }
+        ensures others { SameBut slot self.old.pages.items self.new.pages.items }
     {
         self.pages[slot as usize] = Some(pages);
     }

@@ -9,6 +9,8 @@ ghost use Rattle.bv_claims.specs.Tokens.{IsGrantOf, IsClaimedOf, grant_need, cla
 ghost use Rattle.bv_turn.specs.Tokens.{list_of};
 ghost use Rattle.bv_writer.specs.Blocks.{IsBlobOf};
 ghost use Rattle.bv_session.specs.Events.{IfRefused, IsReadFault, IsRefusal, IfDone, IfRefuses, reply_by, reply_or, IsUnderWay, IsLook, put_by};
+ghost use Rattle.bv_session.specs.Disk.{AreThere, IsOnDisk};
+ghost use Rattle.bv_session.specs.Pages.{Brought, ReaderKnows};
 ghost use Rattle.bv_session.specs.Written.{Writes, written};
 ghost use Rattle.bv_pager.specs.Reading.{FitsIn};
 ghost use Rattle.bv_session.specs.Sessions.{Gains, own, IsFor, BasisHas, Stays};
@@ -198,6 +200,8 @@ pub fn open<R: Wait, T: Serves>(
     ensures refused { IfOk result (λ a. IfRefused a IsRefusal) }
     ensures err { OnErr result (own share.new ≡ own share.old) }
     ensures done { IfOk result (λ a. IfDone a (λ x. IfSome x.1 (λ p. (p.root ≡ root) × (p.size ≡ x.0)))) }
+    ensures there { IfOk result (λ a. IfDone a (λ x. Brought slot share.old share.new
+        (λ b e. IfSome x.1 (AreThere b e)))) }
 {
     let mut held = turn.hold(rt, share);
     let answer = held.value.open(alloc, who, slot, root);
@@ -216,6 +220,7 @@ pub fn close<R: Wait, T: Serves>(
     pages: Option<Reader>,
 ) -> Result<Outcome, AllocError>
     requires ready { IsFor turn.now who share.old }
+    requires pages { IfSome pages (λ r. ReaderKnows slot share.old r) }
     ensures stays { Stays turn.now share.old share.new }
     ensures ok { IfOk result (λ a. Gains who (Close slot) (reply_or Closed a)
         (own share.old) (own share.new)) }
@@ -274,6 +279,8 @@ pub fn fetch<R: Wait, T: Serves>(
     ensures done { IfOk result (λ a. IfDone a (λ x.
         IfSome (slot_holds slot (own share.old))
         (λ blob. (x.window ≡ window) × FitsIn blob.1 x))) }
+    ensures disk { IfOk result (λ a. IfDone a (λ x. Brought slot share.old share.new
+        (λ b e. IfSome (slot_holds slot (own share.old)) (λ blob. IsOnDisk b blob e x)))) }
 {
     let mut held = turn.hold(rt, share);
     let answer = held.value.fetch(alloc, who, slot, window);

@@ -5,7 +5,9 @@ ghost use Rattle.spec_tree.specs.Tree.{windows_of};
 ghost use Rattle.spec_session.specs.Own.{add_of, slot_holds};
 ghost use Rattle.bv_pager.specs.Reading.{FitsIn, known_at};
 ghost use Rattle.bv_session.specs.Sessions.{own, IsFor, Stays};
-ghost use Rattle.bv_session.specs.Windows.{KeepsKnown, Finds, FindsRange, Loads};
+ghost use Rattle.bv_session.specs.Pages.{ReaderKnows};
+ghost use Rattle.bv_session.specs.Shown.{EndsAt, EndsWithin};
+ghost use Rattle.bv_session.specs.Windows.{KeepsKnown, Finds, FindsRange, Loads, Made};
 
 use crate::reply::result_of;
 use crate::serves::{Answer, Serves};
@@ -34,12 +36,15 @@ pub(crate) fn know_window<R: Wait, T: Serves, G: Gate>(
 ) -> Result<Option<LineResult>, AllocError>
     requires ready { IsFor turn.now who share.old }
     requires holds { slot_holds slot (own share.old) ≡ Some (reader.old.root, reader.old.size) }
+    requires pages { ReaderKnows slot share.old reader.old }
     requires window { window < windows_of reader.old.size }
     ensures stays { Stays turn.now share.old share.new }
     ensures holds { slot_holds slot (own share.new) ≡ slot_holds slot (own share.old) }
     ensures idle { add_of (own share.new) ≡ add_of (own share.old) }
     ensures keeps { KeepsKnown reader.old reader.new }
     ensures finds { Finds who slot window reader.new result (own share.old) (own share.new) }
+    ensures pages { ReaderKnows slot share.new reader.new }
+    ensures shows { EndsAt slot share.new reader.new window result }
 {
     if reader.hit(window).is_some() {
         return Ok(None);
@@ -73,6 +78,7 @@ pub(crate) fn know_range<R: Wait, T: Serves, G: Gate>(
 ) -> Result<Option<LineResult>, AllocError>
     requires ready { IsFor turn.now who share.old }
     requires holds { slot_holds slot (own share.old) ≡ Some (reader.old.root, reader.old.size) }
+    requires pages { ReaderKnows slot share.old reader.old }
     requires order { first ≤ past }
     requires past { past ≤ windows_of reader.old.size }
     ensures stays { Stays turn.now share.old share.new }
@@ -80,6 +86,8 @@ pub(crate) fn know_range<R: Wait, T: Serves, G: Gate>(
     ensures keeps { KeepsKnown reader.old reader.new }
     ensures finds { FindsRange who slot first past reader.new result
         (own share.old) (own share.new) }
+    ensures pages { ReaderKnows slot share.new reader.new }
+    ensures shows { EndsWithin slot share.new reader.new first past result }
 {
     for window in first..past {
         let found = match know_window(rt, alloc, turn, share, who, slot, reader, window, gate) {
@@ -103,6 +111,7 @@ fn load(
     requires { FitsIn reader.old.size raw }
     ensures keeps { KeepsKnown reader.old reader.new }
     ensures loads { Loads raw.window reader.new result }
+    ensures made { Made reader.old raw reader.new result }
 {
     let size = reader.size();
     prove!(raw.window < windows(size));

@@ -11,4 +11,5 @@ returns g c =
       stays = c.do_all-whole.ensures.stays;
       does = goes_does c.args.version c.args.lines.now s (not (not whole)) es rs goes;
       goes = goes;
+      shows = c.do_all-whole.ensures.shows;
     }

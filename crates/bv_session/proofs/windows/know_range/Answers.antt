@@ -1,20 +1,23 @@
-use Rattle.std.proofs.Common.{◌≡◌, ◌+◌, ◌<◌, ◌≤◌, ℕ, refl, sym, subst, ◌∙◌, arith}
-use Rattle.std.specs.Prelude.{Some}
+use Rattle.std.proofs.Common.{[], ◌≡◌, ◌+◌, ◌<◌, ◌≤◌, ℕ, refl, sym, subst, ◌∙◌, arith}
+use Rattle.std.specs.Prelude.{Some, Ok, Option}
 use Rattle.spec_tree.specs.Tree.{windows_of}
 use Rattle.bv_session.specs.Windows.{FetchesSome, KnowsBetween}
 use Rattle.bv_session.specs.Sessions.{own}
-use Rattle.bv_session.proofs.Moves.{stays_join}
+use Rattle.bv_session.proofs.Moves.{grows_not, stays_join}
 use Rattle.bv_session.proofs.RangeLemmas.{finds_known, keeps_join, knows_more, range_failed, some_more, some_none, some_weaken}
 use Rattle.bv_session.proofs.WindowLemmas.{same_keeps}
+use Rattle.bv_session.specs.Shown.{EndsAt}
+use Rattle.spec_session.specs.declared.result.LineResult.{LineResult}
 use Rattle.bv_session.proofs.windows.know_range.Goals as goal
 
 pub loop-window-init : goal.loop-window-init
 loop-window-init g c = record {
-  stays = record { this = c.requires.ready.0; idle = c.requires.ready.1; session = refl; basis = refl };
+  stays = record { this = c.requires.ready.0; idle = c.requires.ready.1; session = refl; basis = refl; grows = ([], grows_not _) };
   holds = refl;
   idle = refl;
   keeps = same_keeps _ _ refl;
   known = λ w low high. absurd (omega (arith, low, high));
+  pages = c.requires.pages;
   some = some_none c.args.who c.args.slot c.args.first c.args.first _ _ refl;
 }
 
@@ -38,6 +41,7 @@ loop-window-preserved g c =
       idle = w.idle ∙ i.idle;
       keeps = keeps_join _ _ _ i.keeps w.keeps;
       known = knows_more _ _ c.args.first c.loop-window.window w.keeps i.known found.0;
+      pages = w.pages;
       some = some_more c.args.who c.args.slot c.args.first c.loop-window.window _ _ _ low i.some found.1;
     }
 
@@ -79,4 +83,17 @@ returns-clause-finds g c =
     let end : c.loop-window.window ≡ c.args.past = omega arith in (
       subst (λ (n : ℕ). KnowsBetween c.loop-window.reader c.args.first n) end i.known,
       subst (λ (n : ℕ). FetchesSome c.args.who c.args.slot c.args.first n (own c.args.share.now) (own c.loop-window.share)) end i.some,
+    )
+
+pub returns-in-Some-clause-shows : goal.returns-in-Some-clause-shows
+returns-in-Some-clause-shows g c =
+    let i = c.loop-window.invariant in let w = c.in-Ok.ensures in
+    let low : c.args.first ≤ c.loop-window.window = omega arith in
+    let high : c.loop-window.window < c.args.past = omega arith in
+    let known : KnowsBetween c.know_window.new.reader c.args.first c.loop-window.window = λ v from to. w.keeps.known v (i.known v from to) in (
+      c.loop-window.window,
+      low,
+      high,
+      known,
+      subst (λ (o : Option LineResult). EndsAt c.args.slot c.know_window.new.share c.know_window.new.reader c.loop-window.window (Ok o)) c.in-Some.is w.shows,
     )

@@ -1,4 +1,5 @@
-use Rattle.bv_session.proofs.WindowLemmas.{load_keeps, load_knows, load_apart, same_keeps}
+use Rattle.bv_session.proofs.WindowLemmas.{load_keeps, load_knows, load_apart, same_keeps, load_first}
+use Rattle.std.proofs.Common.{◌<◌, length, arith}
 use Rattle.bv_session.proofs.windows.load.Goals as goal
 
 pub returns-in-Ok-clause-keeps : goal.returns-in-Ok-clause-keeps
@@ -15,3 +16,11 @@ returns-in-Mismatch-clause-loads c = load_apart c.args.reader.now c.args.raw _ _
 
 pub returns-in-NoMemory-clause-keeps : goal.returns-in-NoMemory-clause-keeps
 returns-in-NoMemory-clause-keeps c = same_keeps _ _ c.in-Err.ensures.err
+
+pub returns-in-Ok-clause-made : goal.returns-in-Ok-clause-made
+returns-in-Ok-clause-made c =
+    let low : c.args.raw.window < length c.args.reader.now.known = omega (arith, c.size-size.ensures.reading.count, c.requires.window) in
+    (low, c.in-Ok.ensures.ok)
+
+pub returns-in-Mismatch-clause-made : goal.returns-in-Mismatch-clause-made
+returns-in-Mismatch-clause-made c = (c.in-Err.ensures.err, load_first c.args.reader.now c.args.raw _ _ c.in-Err.ensures.answer c.in-Mismatch.is)
