@@ -39,7 +39,7 @@ use Rattle.bv_session.specs.Disk.{IsOnDisk, ReadsRight, blocks_at, events_since,
 use Rattle.bv_session.specs.declared.entry.Entry.{Entry}
 use Rattle.bv_session.specs.Events.{IfDone, NotesAs, reply_by}
 use Rattle.spec_window.specs.Window.{window_bytes}
-use Rattle.bv_volume.specs.Events.{Does, Happens, event_of}
+use Rattle.bv_volume.specs.Events.{Does, Happens}
 use Rattle.bv_volume.specs.Fetched.{HasFetched, fetch_reply}
 use Rattle.bv_volume.specs.Located.{LiesBy}
 use Rattle.bv_volume.specs.Seen.{Seen}

@@ -2,9 +2,14 @@ pub mod AddLemmas
 pub mod CallerLemmas
 pub mod EntryLemmas
 pub mod FetchLemmas
+pub mod FromLemmas
 pub mod GainLemmas
+pub mod HeldLemmas
+pub mod KeptLemmas
 pub mod LookLemmas
 pub mod MomentLemmas
+pub mod OpenLemmas
+pub mod PagesLemmas
 pub mod ServeLemmas
 pub mod SinceLemmas
 pub mod StayLemmas

@@ -1,10 +1,9 @@
 -- What the disk had as each event ended, from one event to the next.
 use Rattle.std.proofs.Common.{◌≡◌, ◌≤◌, ◌⊎◌, inl, inr, ℕ, Option, Some, None, List, [], ◌∷◌, ◌++◌, length, map, take, take_all, refl, sym, ap, ◌∙◌, subst, arith}
-use Rattle.std.specs.Prelude.{IfSome, is_some, true, find as find_first, option_map}
+use Rattle.std.specs.Prelude.{IfSome, is_some, true, option_map}
 use Rattle.std.proofs.lemmas.List.{take-append-le}
 use Rattle.std.proofs.lemmas.Simd.{map-map}
-use Rattle.spec_disk.specs.Disk.{Blocks, block, now_after}
-use Rattle.spec_disk.specs.Images.{IsSettled}
+use Rattle.spec_disk.specs.Disk.{Blocks, block}
 use Rattle.spec_disk.specs.declared.event.Event.{Event}
 use Rattle.spec_record.specs.Geometry.{block_at}
 use Rattle.spec_record.specs.declared.geometry.Geometry.{Geometry}
@@ -28,27 +27,17 @@ use Rattle.spec_seen.proofs.VersionLemmas.{Map}
 use Rattle.spec_seen.specs.Held.{up_to}
 use Rattle.spec_served.specs.Adds.{AreByLine}
 use Rattle.spec_served.specs.Places.{blocks_by, image_blocks, image_version, publisher, record_blocks, record_version}
-use Rattle.bv_device.specs.Told.{Disk, disk_with, now_of}
+use Rattle.bv_device.specs.Told.{Disk, now_of}
 use Rattle.bv_store.specs.Shown.{HasRecords}
 use Rattle.bv_store.specs.Stored.{Grows, HasBlob, blocks_on}
 use Rattle.bv_volume.specs.Contents.{HoldsIts, KeepsContents, contents_at}
 use Rattle.bv_volume.specs.Events.{Does, Happens, event_of}
-use Rattle.bv_volume.specs.Located.{LiesBy, Located}
-use Rattle.bv_volume.specs.Seen.{HasBlobsNow, Seen}
-use Rattle.bv_volume.specs.Sound.{PublishedAreSound}
-use Rattle.bv_shared.specs.Moments.{BeganWhole, ContentsVerify, EachMoment, HasItsBlob, Moment, Moments, held_by, image_has, image_size, record_size, there_at}
+use Rattle.bv_volume.specs.Located.{Located}
+use Rattle.bv_volume.specs.Seen.{Seen}
+use Rattle.bv_shared.specs.Moments.{BeganWhole, ContentsVerify, HasItsBlob, HasNow, Moment, Moments, held_by, image_has, image_size, record_size, there_at}
 use Rattle.bv_shared.specs.Since.{AreOfOneDisk, AreWithin, EndBy}
 
 -- ---- what a volume says of its disk now
-
--- what `Volume::history` says
-abbrev pub HasNow : Seen → Type 0
-HasNow v =
-    Located v.history v.store.geometry v.store.began v.store.told v.store.placed
-    × HasBlobsNow v
-    × PublishedAreSound v.history (last_state v.history v.next).map v.store
-    × KeepsContents v.history v.store.geometry v.store.told v.store.placed
-    × IfSome v.store.told (λ d. length d.trace ≡ v.store.calls)
 
 -- the record of a blob of the map, and where it lies
 record Recorded (g : Geometry) (placed : List (Digest × List ℕ)) (image : Blocks) (r : Digest) (blob : Blob) : Type 0 where

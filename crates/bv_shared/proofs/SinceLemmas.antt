@@ -19,9 +19,9 @@ use Rattle.spec_orderly.specs.Slots.{AreMounted, is_unmount}
 use Rattle.bv_ledger.specs.Answers.{look_act}
 use Rattle.bv_ledger.specs.declared.opening.Look.{Look}
 use Rattle.bv_ledger.specs.declared.opening.Look.TheVariants as look
-use Rattle.bv_shared.specs.Moments.{Moments}
+use Rattle.bv_shared.specs.Moments.{HasNow, Moments}
 use Rattle.bv_shared.specs.Since.{AreOfOneDisk, AreWithin, EndBy, Since}
-use Rattle.bv_shared.proofs.MomentLemmas.{HasNow, moments_by, moments_fresh}
+use Rattle.bv_shared.proofs.MomentLemmas.{moments_by, moments_fresh}
 
 -- ---- where events ended
 
@@ -29,7 +29,7 @@ rises : (c : ℕ) (es : List CoreEvent) → NeverFall c es → c ≤ last_calls 
 rises c [] k = omega arith
 rises c (e ∷ es) k = omega (arith, k.0, rises e.calls es k.1)
 
-ends_by : (c n : ℕ) (es : List CoreEvent) → NeverFall c es → last_calls c es ≤ n → EndBy n es
+pub ends_by : (c n : ℕ) (es : List CoreEvent) → NeverFall c es → last_calls c es ≤ n → EndBy n es
 ends_by c n [] k last = tt
 ends_by c n (e ∷ es) k last = (omega (arith, last, rises e.calls es k.1), ends_by e.calls n es k.1 last)
 

@@ -1,36 +1,33 @@
 -- What the disk has of a blob while nobody publishes it.
-use Rattle.std.proofs.Common.{◌≡◌, ◌≤◌, ◌<◌, ◌+◌, ◌&&◌, ℕ, zero, suc, Bool, true, false, cond, Option, Some, None, List, [], ◌∷◌, ◌++◌, length, map, filter, take, refl, sym, ap, ◌∙◌, subst, arith, append_assoc}
-use Rattle.std.specs.Prelude.{All, IfSome, IsSomeAnd, slice_get}
+use Rattle.std.proofs.Common.{◌≡◌, ◌≤◌, ◌<◌, ◌+◌, ◌&&◌, ℕ, zero, suc, Bool, true, false, cond, Option, Some, None, List, [], ◌∷◌, ◌++◌, length, map, filter, take, refl, sym, ap, ◌∙◌, arith}
+use Rattle.std.specs.Prelude.{All, slice_get}
 use Rattle.std.proofs.lemmas.List.{append-nil}
 use Rattle.std.proofs.lemmas.List.Elements.{filter-append}
 use Rattle.std.proofs.Math.Seq.{take-append_seam}
 use Rattle.spec_disk.specs.Disk.{Blocks}
 use Rattle.spec_disk.specs.declared.event.Event.{Event}
 use Rattle.spec_tree.specs.declared.Digest.{Digest}
-use Rattle.spec_tree.specs.declared.blob.Blob.{Blob}
 use Rattle.spec_core.proofs.Deeds.{alike, deed_stopped}
 use Rattle.spec_core.proofs.Histories.{Steps-front}
 use Rattle.spec_core.specs.Deeds.{deed_of}
 use Rattle.spec_core.specs.History.{History, Legal, NeverFall, first_state, last_state, opening_map, setting_of}
 use Rattle.spec_core.specs.Laws.{Empties}
-use Rattle.spec_core.specs.State.{State, find, held}
+use Rattle.spec_core.specs.State.{State, held}
 use Rattle.spec_core.specs.Step.{after, state_after}
 use Rattle.spec_core.specs.declared.event.CoreEvent.{CoreEvent}
 use Rattle.spec_core.specs.declared.place.Place.{Place}
 use Rattle.spec_core.specs.declared.setting.Setting.{Setting}
 use Rattle.spec_core.specs.declared.who.Who.{Who}
 use Rattle.spec_crash.specs.Timing.{event_at}
-use Rattle.spec_seen.proofs.ByLineLemmas.{front_by}
 use Rattle.spec_seen.proofs.HeldLemmas.{stay_published}
 use Rattle.spec_seen.proofs.WhereLemmas.{stay_where}
 use Rattle.spec_seen.specs.Held.{up_to}
 use Rattle.spec_served.specs.Adds.{AreByLine}
 use Rattle.spec_served.specs.Places.{blocks_by, publisher, put_blocks, was_written, written_at}
 use Rattle.spec_session.specs.Told.{same_who}
-use Rattle.bv_device.specs.Told.{Disk, now_of}
 use Rattle.bv_volume.proofs.Located.{apart_of, by_line_last}
 use Rattle.bv_volume.specs.Contents.{bytes_of, put_contents}
-use Rattle.bv_shared.specs.Moments.{BeganWhole, EachMoment, HasItsBlob, held_by, there_at}
+use Rattle.bv_shared.specs.Moments.{held_by, there_at}
 use Rattle.bv_shared.specs.Since.{EndBy}
 
 -- ---- a history up to some moment
@@ -41,7 +38,7 @@ going_before g s [] k = k
 going_before g s (e ∷ es) k =
     sym (deed_stopped g s (deed_of e.who e.act e.reply)) ∙ (alike g s e.who e.act e.reply).going (going_before g (after g s e) es k)
 
-after_both : (g : Setting) (s : State) (xs ys : List CoreEvent) → state_after g s (xs ++ ys) ≡ state_after g (state_after g s xs) ys
+pub after_both : (g : Setting) (s : State) (xs ys : List CoreEvent) → state_after g s (xs ++ ys) ≡ state_after g (state_after g s xs) ys
 after_both g s [] ys = refl
 after_both g s (x ∷ xs) ys = after_both g (after g s x) xs ys
 
@@ -146,3 +143,15 @@ held_same base told h next before more p r legal lined is all =
     ap (held_by base told (before ++ more) r) same
     ∙ held_by_puts base told before more r (publisher r None before)
     (sym (ap (blocks_by base told (before ++ more) r) same) ∙ stay_where base told h next before more p r legal lined is all)
+
+-- so the disk has the same at its blocks, as any two events end meanwhile
+pub stay_there : (base : Blocks) (told : List Event) (h : History) (next : ℕ) (before more : List CoreEvent) (first last : ℕ) (p : Place) (r : Digest) → Legal (up_to h (before ++ more)) next → AreByLine [] (before ++ more)
+    → held (last_state (up_to h before) next).slots p ≡ Some r → All (λ e. ¬ Empties p e.who e.act) more → EndBy first before → EndBy last (before ++ more)
+    → there_at base (take first told) before r ≡ held_by base (take first told) before r (publisher r None before)
+    → there_at base (take last told) (before ++ more) r ≡ held_by base (take last told) (before ++ more) r (publisher r None (before ++ more))
+    → there_at base (take first told) before r ≡ there_at base (take last told) (before ++ more) r
+stay_there base told h next before more first last p r legal lined is all within later here there =
+    here ∙ held_taken base told before r (publisher r None before) first within
+    ∙ sym (held_same base told h next before more p r legal lined is all)
+    ∙ sym (held_taken base told (before ++ more) r (publisher r None (before ++ more)) last later)
+    ∙ sym there

@@ -17,7 +17,7 @@ use Rattle.bv_session.specs.declared.entry.Basis.{Basis}
 use Rattle.bv_session.specs.declared.entry.Entry.{Entry}
 use Rattle.bv_session.specs.declared.entry.Told.{Told}
 use Rattle.bv_session.specs.Disk.{told_after}
-use Rattle.bv_session.specs.Events.{Notes}
+use Rattle.bv_session.specs.Events.{Notes, NotesAs}
 use Rattle.bv_volume.specs.Seen.{Seen}
 
 -- a disk that is told, as sessions tell of it
@@ -75,3 +75,9 @@ entries_in v = entries_from (told_of v.store.began) (device_events v.store.told)
 abbrev pub Gains : List Entry → List Entry → Who → Act → Option Reply → Type 0
 Gains old new who act None = new ≡ old
 Gains old new who act (Some reply) = Notes old new who act reply
+
+-- the same, and the entry has P
+abbrev pub GainsAs
+    : List Entry → List Entry → Who → Act → Option Reply → (Entry → Type 0) → Type 0
+GainsAs old new who act None P = new ≡ old
+GainsAs old new who act (Some reply) P = NotesAs old new who act reply P

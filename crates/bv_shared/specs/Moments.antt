@@ -1,5 +1,5 @@
 -- What the disk had of the blobs of the map as each event ended.
-use Rattle.std.specs.Prelude.{◌≡◌, ◌<◌, ℕ, Bool, true, false, List, [], ◌∷◌, ◌++◌, map, take, Option, None, Some, IfSome, is_some}
+use Rattle.std.specs.Prelude.{◌≡◌, ◌<◌, ℕ, Bool, true, false, List, [], ◌∷◌, ◌++◌, length, map, take, Option, None, Some, IfSome, is_some}
 use Rattle.std.specs.Coded.{Coded-set, coded_bool, coded_list, coded_ℕ, Π_prop, Unit-prop, le_prop}
 use Rattle.spec_disk.specs.Disk.{Blocks, block, now_after}
 use Rattle.spec_disk.specs.Images.{IsSettled}
@@ -22,8 +22,10 @@ use Rattle.spec_served.specs.Adds.{AreByLine}
 use Rattle.spec_served.specs.Places.{blocks_by, image_blocks, image_version, publisher}
 use Rattle.bv_device.specs.Told.{Disk, now_of}
 use Rattle.bv_session.specs.Disk.{record_of}
-use Rattle.bv_volume.specs.Contents.{put_contents}
-use Rattle.bv_volume.specs.Seen.{Seen}
+use Rattle.bv_volume.specs.Contents.{KeepsContents, put_contents}
+use Rattle.bv_volume.specs.Located.{Located}
+use Rattle.bv_volume.specs.Seen.{HasBlobsNow, Seen}
+use Rattle.bv_volume.specs.Sound.{PublishedAreSound}
 
 -- ---- a blob of an image
 
@@ -103,6 +105,16 @@ EachMoment began told h next =
 -- as each event of a volume ended
 abbrev pub Moments : Seen → Type 0
 Moments v = EachMoment v.store.began v.store.told v.history v.next
+
+-- what a volume says of its disk now: where each blob lies, that the disk has it there, that what was
+-- published is sound, what blocks hold, and that the device's calls are told
+abbrev pub HasNow : Seen → Type 0
+HasNow v =
+    Located v.history v.store.geometry v.store.began v.store.told v.store.placed
+    × HasBlobsNow v
+    × PublishedAreSound v.history (last_state v.history v.next).map v.store
+    × KeepsContents v.history v.store.geometry v.store.told v.store.placed
+    × IfSome v.store.told (λ d. length d.trace ≡ v.store.calls)
 
 -- ---- each of these facts has one proof at most
 

@@ -14,15 +14,22 @@ ghost use Rattle.bv_turn.specs.Entries.{entries_of};
 ghost use Rattle.bv_volume.specs.Adding.{ClaimsFor};
 ghost use Rattle.bv_volume.specs.Admitted.{HandsBoth, admit_reply};
 ghost use Rattle.bv_volume.specs.Answers.{HandsBack, settle_reply};
-ghost use Rattle.bv_volume.specs.Sessions.{HasAdmitted, HasBegun};
+ghost use Rattle.bv_volume.specs.Events.{Does};
+ghost use Rattle.bv_volume.specs.Sessions.{HasAdmitted, HasBegun, HasPut};
 ghost use Rattle.bv_writer.specs.Blocks.{IsBlobOf};
 ghost use Rattle.bv_shared.specs.Answers.{put_outcome};
 ghost use Rattle.bv_shared.specs.Entries.{Gains, basis_of, entries_in, told_of};
+ghost use Rattle.bv_shared.specs.KeptPages.{kept_after, last_settled};
+ghost use Rattle.bv_shared.specs.Moments.{HasNow};
 ghost use Rattle.bv_shared.specs.Since.{AreWithin};
 
+use crate::pages::forget_settled;
 use crate::shared::Shared;
+use bv_cache::Kept;
 use bv_store::{Block, Store};
-use bv_volume::{AdmitFault, Admitted, BeginFault, Begun, Claimed, Grant, PutFault, SettleFault};
+use bv_volume::{
+    AdmitFault, Admitted, BeginFault, Begun, Claimed, Grant, PutFault, SettleFault, Volume,
+};
 use spec_core::Who;
 use spec_tree::Digest;
 use std::alloc::Global;
@@ -133,10 +140,7 @@ impl<'t, S: Store> Shared<'t, S> {
         ensures back { HandsBack result add }
     {
         let _history = self.volume.history();
-        let volume = &mut self.volume;
-        let answer = volume.settle(alloc, who, add);
-        let _after = volume.history();
-        answer
+        settle_anew(&mut self.volume, &mut self.kept, alloc, who, add)
     }
 
     pub(crate) fn note_retire_begun(&mut self, who: Who, begun: Begun, claimed: Claimed)
@@ -168,4 +172,27 @@ impl<'t, S: Store> Shared<'t, S> {
         volume.retire(who, add);
         let _after = volume.history();
     }
+}
+
+/// Settles an add, and drops what was kept of its blob: whoever publishes a root puts its blocks
+/// anew.
+fn settle_anew<S: Store>(
+    volume: &mut Volume<'_, S>,
+    kept: &mut Kept,
+    alloc: Global,
+    who: Who,
+    add: Admitted,
+) -> Result<(), SettleFault>
+    requires spare { 1 ≤ volume.old.spare }
+    requires add { HasAdmitted volume.old.history who.session add }
+    requires put { HasPut volume.old who.session add }
+    ensures row { Does volume.old volume.new who (Settle add.root) (settle_reply result) }
+    ensures back { HandsBack result add }
+    ensures now { HasNow volume.new }
+    ensures kept { kept.new ≡ kept_after (last_settled volume.new.history.events) kept.old }
+{
+    let answer = volume.settle(alloc, who, add);
+    let after = volume.history();
+    forget_settled(kept, after.events());
+    answer
 }

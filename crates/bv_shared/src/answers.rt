@@ -1,6 +1,8 @@
 //! What the volume's answers are to a session.
-ghost use Rattle.std.specs.Prelude.{◌≡◌, IfOk, IfErr, IfSome, IsSomeAnd, Ok, Err, Some};
+ghost use Rattle.std.specs.Prelude.{◌≡◌, ◌⊎◌, IfOk, IfErr, IfSome, IsSomeAnd, Ok, Err, Some};
 ghost use Rattle.spec_core.specs.declared.reply.Reply.TheVariants.{Admitted as AdmittedReply, Closed, Fetched, Granted, Opened, Published, Reading, Synced, Unlinked};
+ghost use Rattle.std.specs.Map.{lookup, remove_entry};
+ghost use Rattle.bv_cache.specs.Kept.{is_root};
 ghost use Rattle.bv_ledger.specs.Answers as A;
 ghost use Rattle.bv_session.specs.Events.{IfDone, IfRefused, IfRefuses, IsLook, IsReadFault, IsRefusal, reply_by};
 ghost use Rattle.bv_volume.specs.Admitted.{admit_reply};
@@ -143,6 +145,9 @@ pub(crate) fn open_answer(
     ensures reply { answer_reply (λ x. Opened x.0) result ≡ A.open_reply answer }
     ensures pages { IfOk result (λ a. IfDone a (λ x.
         IfSome x.1 (λ p. (p.root ≡ root) × (p.size ≡ x.0)))) }
+    ensures found { IfOk result (λ a. IfDone a (λ x. (answer ≡ Ok x.0)
+        × IfSome x.1 (λ p. lookup (is_root root) kept.old ≡ Some p))) }
+    ensures kept { (kept.new ≡ kept.old) ⊎ (kept.new ≡ remove_entry (is_root root) kept.old) }
     ensures refused { IfOk result (λ a. IfRefused a IsRefusal) }
 {
     match answer {

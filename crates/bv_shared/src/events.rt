@@ -12,7 +12,9 @@ ghost use Rattle.spec_tree.specs.Tree.{windows_of};
 ghost use Rattle.bv_volume.specs.Answers.{sync_reply};
 ghost use Rattle.bv_volume.specs.Events.{Does};
 ghost use Rattle.bv_volume.specs.Fetched.{HasFetched, fetch_reply};
-ghost use Rattle.bv_shared.specs.Entries.{Gains, basis_of, entries_in};
+ghost use Rattle.bv_pager.specs.Reading.{Reading};
+ghost use Rattle.bv_shared.specs.Entries.{Gains, GainsAs, basis_of, entries_in};
+ghost use Rattle.bv_shared.specs.KeptPages.{OpensKept, ReaderHas};
 ghost use Rattle.bv_shared.specs.Since.{AreWithin};
 
 use crate::shared::Shared;
@@ -87,9 +89,10 @@ impl<'t, S: Store> Shared<'t, S> {
         ensures opening { self.new.opening.value ≡ self.old.opening.value }
         ensures basis { (faults : ℕ) → basis_of self.new.volume faults
             ≡ basis_of self.old.volume faults }
-        ensures gains { Gains (entries_in self.old.volume)
-            (entries_in self.new.volume) who (Open slot root)
-            (A.open_reply result) }
+        ensures gains { GainsAs (entries_in self.old.volume)
+            (entries_in self.new.volume) who (Open slot root) (A.open_reply result)
+            (OpensKept self.new.volume
+            (basis_of self.old.volume self.old.opening.value.store.faults) root result) }
     {
         let volume = &mut self.volume;
         let answer = volume.open_slot(alloc, who, slot, root);
@@ -106,6 +109,8 @@ impl<'t, S: Store> Shared<'t, S> {
         ensures gains { Gains (entries_in self.old.volume)
             (entries_in self.new.volume) who (Close slot)
             (Some (A.close_reply result)) }
+        ensures has { (r : Reading) → ReaderHas self.old.volume r
+            → ReaderHas self.new.volume r }
     {
         let volume = &mut self.volume;
         let answer = volume.close_slot(who, slot);

@@ -2,6 +2,7 @@
 ghost use Rattle.std.specs.Prelude.{◌≡◌, ◌≤◌, [], IfOk, IfErr};
 ghost use Rattle.spec_core.specs.Synced.{Caused};
 ghost use Rattle.spec_orderly.specs.Slots.{AreMounted};
+ghost use Rattle.bv_shared.specs.KeptPages.{KeptPages, KeptPages-prop};
 ghost use Rattle.bv_shared.specs.Moments.{Moments};
 ghost use Rattle.bv_shared.specs.Since.{AreOfOneDisk, Since, Since-prop};
 
@@ -18,6 +19,7 @@ pub struct Shared<'t, S: Store> {
     pub(crate) kept: Kept,
     pub(crate) opening: Snapshot<Volume<'t, S>>,
     ghost since: { Since opening.value volume } by { Since-prop opening.value volume },
+    ghost pages: { KeptPages volume kept } by { KeptPages-prop volume kept },
 }
 
 impl<'t, S: Store> Shared<'t, S> {

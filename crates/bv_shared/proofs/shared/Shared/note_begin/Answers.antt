@@ -2,6 +2,7 @@ use Rattle.std.proofs.Common.{◌≡◌, sym, subst, refl}
 use Rattle.std.specs.Prelude.{Option, IfSome}
 use Rattle.spec_core.specs.declared.act.Act.TheVariants as acts
 use Rattle.bv_shared.proofs.GainLemmas.{basis_by, gains_by}
+use Rattle.bv_shared.proofs.KeptLemmas.{pages_by}
 use Rattle.bv_shared.proofs.SinceLemmas.{since_by}
 use Rattle.spec_session.specs.Own.{OwnAdd}
 use Rattle.bv_ledger.specs.Answers as A
@@ -14,6 +15,7 @@ begin-answer-requires-clause-order g c = subst (λ (o : Option OwnAdd). IfSome o
 pub invariant_of-self : goal.invariant_of-self
 invariant_of-self g c = record {
   since = since_by c.args.self.now.opening.value c.args.self.now.volume c.begin-answer.new.self c.requires.within c.args.who (acts.Begin c.args.root c.args.size) (A.begin_reply c.begin-answer.result) c.begin-answer.ensures.row refl (c.history-after.ensures.located, c.history-after.ensures.shown, c.history-after.ensures.sound, c.history-after.ensures.contents, c.history-after.ensures.counted) c.args.self.now.since;
+  pages = pages_by c.args.self.now.volume c.begin-answer.new.self c.requires.within c.args.who (acts.Begin c.args.root c.args.size) (A.begin_reply c.begin-answer.result) c.args.self.now.kept c.begin-answer.ensures.row (λ reply. refl) c.args.self.now.pages;
 }
 
 pub returns-clause-basis : goal.returns-clause-basis

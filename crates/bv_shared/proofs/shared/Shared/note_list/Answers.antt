@@ -2,12 +2,14 @@ use Rattle.std.proofs.Common.{refl}
 use Rattle.spec_core.specs.declared.act.Act.TheVariants as acts
 use Rattle.bv_volume.specs.Answers as V
 use Rattle.bv_shared.proofs.GainLemmas.{basis_by, lists_by, lists_none}
+use Rattle.bv_shared.proofs.KeptLemmas.{pages_by}
 use Rattle.bv_shared.proofs.SinceLemmas.{since_by}
 use Rattle.bv_shared.proofs.shared.Shared.note_list.Goals as goal
 
 pub invariant_of-self : goal.invariant_of-self
 invariant_of-self g c = record {
   since = since_by c.args.self.now.opening.value c.args.self.now.volume c.list-answer.new.self c.requires.within c.args.who (acts.List) (V.list_reply c.list-answer.result) c.list-answer.ensures.row refl (c.history-after.ensures.located, c.history-after.ensures.shown, c.history-after.ensures.sound, c.history-after.ensures.contents, c.history-after.ensures.counted) c.args.self.now.since;
+  pages = pages_by c.args.self.now.volume c.list-answer.new.self c.requires.within c.args.who (acts.List) (V.list_reply c.list-answer.result) c.args.self.now.kept c.list-answer.ensures.row (λ reply. refl) c.args.self.now.pages;
 }
 
 pub returns-clause-basis : goal.returns-clause-basis
