@@ -1,0 +1,11 @@
+pub mod Due
+pub mod Firsts
+pub mod Fits
+pub mod Fronts
+pub mod Given
+pub mod Lines
+pub mod Owned
+pub mod Quiet
+pub mod Sees
+pub mod Session
+pub mod There
