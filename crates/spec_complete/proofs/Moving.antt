@@ -25,7 +25,7 @@ use Rattle.spec_seen.proofs.VersionLemmas.{IsOf, versioned_last}
 use Rattle.spec_seen.proofs.WhereLemmas.{known_by_then}
 use Rattle.spec_seen.specs.Held.{up_to}
 use Rattle.spec_complete.specs.Fit.{IsAbout}
-use Rattle.spec_complete.specs.Sound.{ContentsVerify, HoldsBy, HoldsThere, MomentsHoldTheirs, there_at}
+use Rattle.spec_complete.specs.Sound.{ContentsVerify, HoldsBy, HoldsThere, LinesHoldTheirs, MomentsHoldTheirs, there_at}
 use Rattle.spec_complete.proofs.Mapped.{has_then, legal_then}
 
 -- ---- the own event
@@ -100,10 +100,17 @@ module _ (base : Blocks) (told : List Event) (h : History) (next : ℕ) (at : At
       let verifies = holds.published (ap is_some (same_publisher ∙ some)) in
       subst (λ (p : ℕ × ℕ × List (List ℕ)). ContentsVerify root p.0 p.1 p.2) (λ i. (size i, version i, same_there i)) verifies
 
-pub moments_hold : MomentsHoldTheirs
-moments_hold base told h next legal each at about =
+-- where the disk has the blob of each such line as its own event ends, its blocks hold theirs
+pub lines_hold : (base : Blocks) (told : List Event) (h : History) (next : ℕ) → Legal h next
+    → ((at : At) → IsAbout h at → (blob : Blob) → find (last_state (up_to h (at.before ++ at.own ∷ [])) next).map at.blob.0 ≡ Some blob
+    → HoldsThere base (take at.own.calls told) (at.before ++ at.own ∷ []) at.blob.0 blob)
+    → LinesHoldTheirs base told h
+lines_hold base told h next legal each at about =
     by (find (last_state (up_to h (at.before ++ at.own ∷ [])) next).map at.blob.0) refl (has_then h next at legal about) where
       by : (o : Option Blob) → find (last_state (up_to h (at.before ++ at.own ∷ [])) next).map at.blob.0 ≡ o → IsSomeAnd o (λ b. b.size ≡ at.blob.1) → HoldsBy base told h at (publisher at.blob.0 None at.before)
       by None is size = absurd size
-      by (Some blob) is size =
-          moment_holds base told h next at legal about blob is size (each at.before at.own about.rest about.is at.blob.0 blob is) (publisher at.blob.0 None at.before) refl
+      by (Some blob) is size = moment_holds base told h next at legal about blob is size (each at about blob is) (publisher at.blob.0 None at.before) refl
+
+pub moments_hold : MomentsHoldTheirs
+moments_hold base told h next legal each =
+    lines_hold base told h next legal (λ at about blob is. each at.before at.own about.rest about.is at.blob.0 blob is)
