@@ -6,24 +6,28 @@ use Rattle.std.proofs.lemmas.List.Elements.{All-cons, All-map}
 use Rattle.spec_core.specs.declared.event.CoreEvent.{CoreEvent}
 use Rattle.spec_headline.specs.Run.{HasNoUnmount}
 use Rattle.spec_script.specs.declared.line.ScriptLine.{ScriptLine}
-use Rattle.spec_session.specs.Conform.{events_of}
+use Rattle.spec_session.specs.Conform.{events_of, requests_of}
+use Rattle.spec_session.specs.Text.{results_in, results_of}
 use Rattle.spec_session.specs.declared.end.SessionEnd.{SessionEnd}
+use Rattle.spec_session.specs.declared.result.LineResult.{LineResult}
+use Rattle.bv_came.specs.Sees.{SessionsShow, own_entries}
 use Rattle.bv_claims.specs.declared.claims.Claims.{Claims}
 use Rattle.bv_turn.specs.declared.keeps.Keeps.{Ghosts}
 use Rattle.bv_turn.specs.declared.turn.Share.{Share}
 use Rattle.bv_turn.specs.declared.turn.Turn.{Turn}
 use Rattle.bv_turn.specs.Entries.{entries_of}
-use Rattle.bv_turn.specs.Tokens.{IsOf, IsIdle, session_of, list_of, KnowsEntries, KnowsBasis, HasShare, AreFresh}
+use Rattle.bv_turn.specs.Tokens.{IsOf, IsIdle, session_of, list_of, basis_of, KnowsEntries, KnowsBasis, HasShare, AreFresh}
 use Rattle.bv_session.specs.declared.entry.Basis.{Basis}
 use Rattle.bv_session.specs.declared.entry.Entry.{Entry}
 use Rattle.bv_session.specs.declared.session.Ended.{Ended}
 use Rattle.bv_session.specs.Ends.{IsReady, ComesBack, EndOf, Does, Goes}
 use Rattle.bv_session.specs.Events.{events_in, history_of}
 use Rattle.bv_session.specs.Sessions.{own}
+use Rattle.bv_session.specs.Shown.{ShowSome}
 use Rattle.std.specs.Prelude.{not}
 use Rattle.bv_sessions.specs.Backs.{ComeBack}
 use Rattle.bv_sessions.specs.Ends.{AllEnd}
-use Rattle.bv_sessions.proofs.EndsLemmas.{own_events_are, ends_as}
+use Rattle.bv_sessions.proofs.EndsLemmas.{own_entries_are, own_events_are, ends_as}
 
 module _ {A : Type 0} where
   index_from_get : (xs : List A) (n : ℕ) (x d : A) → slice_get xs n ≡ Some x → slice_index_or xs n d ≡ x
@@ -115,6 +119,18 @@ module _ {T : Type 0} {k : Ghosts T Entry Basis} (t : Turn T Entry Basis) (lines
                   (subst (λ (y : ℕ × ℕ × List CoreEvent). Does y.0 lines y.1 (not b.1.memory) y.2) (λ i. (sym v i, f.4 i, events i)) b.4.does)
                   (subst (λ (y : ℕ × ℕ × List CoreEvent). Goes y.0 lines y.1 (not b.1.memory) y.2 b.1.results.items) (λ i. (sym v i, f.4 i, events i)) b.4.goes),
             )
+
+        -- and of which pages its results came
+        pub all_show : (k.basis x).geometry.version ≡ version → length shares ≡ 16 → All (λ s. KnowsEntries s x) bs → All (λ s. KnowsBasis s x) bs → SessionsShow (k.basis x) lines (k.entries x) (results_of es)
+        all_show v count known stands n low =
+            let f = fresh n (subst (λ m. n < m) (sym count) low) in let b = back-at shares bs es back n f.0 f.1 in
+            let inside : n < length bs = below_length bs n b.0 b.2 in
+            let knows : list_of b.0 ≡ entries_of k.session (session_of b.0) (k.entries x) = at_place (λ s. KnowsEntries s x) bs n b.0 known b.2 inside in
+            let basis : basis_of b.0 ≡ Some (k.basis x) = at_place (λ s. KnowsBasis s x) bs n b.0 stands b.2 inside in
+            let mine : session_of b.0 ≡ n = b.4.stays.session ∙ f.4 in
+            let list : list_of b.0 ≡ own_entries n (k.entries x) = knows ∙ ap (λ m. entries_of k.session m (k.entries x)) mine ∙ own_entries_are k.session is n (k.entries x) in
+            let results : b.1.results.items ≡ results_of es n = sym (ap results_in b.3) in
+            subst (λ (y : ℕ × ℕ × List Entry × List LineResult). ShowSome (k.basis x) y.0 [] (requests_of y.1 lines) y.2 y.3) (λ i. (sym v i, f.4 i, list i, results i)) (b.4.shows (k.basis x) basis)
 
         -- no event is of another session
         pub no_others : length shares ≡ 16 → All (HasShare bs) (k.entries x) → HasNoUnmount (history_of (k.basis x) (k.entries x))

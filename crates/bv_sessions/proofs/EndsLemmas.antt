@@ -10,6 +10,7 @@ use Rattle.spec_session.specs.declared.end.SessionEnd.{SessionEnd}
 use Rattle.spec_session.specs.declared.result.LineResult.{LineResult}
 use Rattle.spec_served.specs.Served.{ServeLines, ServeSome}
 use Rattle.bv_turn.specs.Entries.{entries_of}
+use Rattle.bv_came.specs.Sees.{own_entries}
 use Rattle.bv_session.specs.declared.entry.Entry.{Entry}
 use Rattle.bv_session.specs.Ends.{Does, Goes}
 use Rattle.bv_session.specs.Events.{events_in}
@@ -23,6 +24,16 @@ own_events_are session is s (e ∷ es) = by_test (e.event.who.session == s) refl
   by_test : (b : Bool) → (e.event.who.session == s) ≡ b → events_in (entries_of session s es) ≡ events_of s (events_in es)
       → events_in (entries_of session s (e ∷ es)) ≡ events_of s (events_in (e ∷ es))
   by_test true same rest = let here : (session e == s) ≡ true = ap (λ n. n == s) (is e) ∙ same in rw (here, same) (ap (λ xs. e.event ∷ xs) rest)
+  by_test false other rest = let here : (session e == s) ≡ false = ap (λ n. n == s) (is e) ∙ other in rw (here, other) rest
+
+-- a session's own entries
+pub own_entries_are : (session : Entry → ℕ) → ((e : Entry) → session e ≡ e.event.who.session) → (s : ℕ) (es : List Entry)
+    → entries_of session s es ≡ own_entries s es
+own_entries_are session is s [] = refl
+own_entries_are session is s (e ∷ es) = by_test (e.event.who.session == s) refl (own_entries_are session is s es) where
+  by_test : (b : Bool) → (e.event.who.session == s) ≡ b → entries_of session s es ≡ own_entries s es
+      → entries_of session s (e ∷ es) ≡ own_entries s (e ∷ es)
+  by_test true same rest = let here : (session e == s) ≡ true = ap (λ n. n == s) (is e) ∙ same in rw (here, same) (ap (λ xs. e ∷ xs) rest)
   by_test false other rest = let here : (session e == s) ≡ false = ap (λ n. n == s) (is e) ∙ other in rw (here, other) rest
 
 -- all lines are some first lines, and no next one began

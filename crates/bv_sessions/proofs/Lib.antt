@@ -1,4 +1,5 @@
 pub mod BackLemmas
 pub mod CloseLemmas
 pub mod EndsLemmas
+pub mod MomentLemmas
 pub mod RunsLemmas

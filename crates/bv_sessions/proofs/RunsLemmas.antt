@@ -1,38 +1,53 @@
 -- What a run gave, by what its sessions left and by how its volume was closed.
-use Rattle.std.proofs.Common.{◌≡◌, ℕ, suc, zero, ◌<◌, ◌≤◌, ◌==◌, inl, Bool, true, false, not, ◌&&◌, List, [], ◌∷◌, ◌++◌, length, refl, sym, ap, ◌∙◌, subst, arith, slice_get, ne_eqb, Option, Some, None}
+use Rattle.std.proofs.Common.{◌≡◌, ℕ, suc, zero, ◌<◌, ◌≤◌, ◌⊎◌, ◌==◌, inl, Bool, true, false, not, ◌&&◌, List, [], ◌∷◌, ◌++◌, length, refl, sym, ap, ◌∙◌, subst, arith, slice_get, ne_eqb, Option, Some, None}
 use Rattle.std.specs.Prelude.{IfSome, IsSomeAnd, cond}
 use Rattle.std.proofs.lemmas.List.{append-nil}
 use Rattle.std.proofs.lemmas.List.Elements.{filter-append}
+use Rattle.std.proofs.Math.Seq.{take-append_seam}
 use Rattle.spec_disk.specs.Images.{IsSettled}
+use Rattle.spec_disk.specs.declared.event.Event.{Event}
 use Rattle.spec_core.specs.History.{History, Legal, first_state, last_state, opening_map, setting_of, with_event}
 use Rattle.spec_core.specs.Synced.{Caused}
 use Rattle.spec_core.specs.declared.act.Act.TheVariants.{Unmount}
 use Rattle.spec_core.specs.declared.event.CoreEvent.{CoreEvent}
 use Rattle.spec_core.specs.declared.reply.Reply.TheVariants.{Unmounted}
-use Rattle.spec_crash.specs.Timing.{LastHas}
+use Rattle.spec_crash.specs.Crash.{HoldsWhole}
+use Rattle.spec_crash.specs.Timing.{LastHas, MayCall}
 use Rattle.spec_headline.specs.Headline.{IsUnmounted}
-use Rattle.spec_headline.specs.Run.{Ended, CutShort, HasNoUnmount, program, run_of}
+use Rattle.spec_headline.specs.Run.{Ended, CutShort, HasNoUnmount, Seen, program, run_of}
 use Rattle.spec_orderly.proofs.Covered.{no_add_left}
+use Rattle.spec_orderly.specs.Slots.{AreMounted}
+use Rattle.spec_script.specs.Lawful.{AreLawful}
+use Rattle.spec_seen.proofs.ByLineLemmas.{lines_add_once}
+use Rattle.spec_served.specs.Adds.{AreByLine}
+use Rattle.spec_served.specs.Device.{SeenByAll}
 use Rattle.spec_script.specs.declared.line.ScriptLine.{ScriptLine}
 use Rattle.spec_session.specs.Conform.{Begins, DoLines, events_of, requests_of}
 use Rattle.spec_session.specs.Text.{results_in, results_of}
 use Rattle.spec_session.specs.declared.end.SessionEnd.{SessionEnd}
 use Rattle.spec_session.specs.declared.result.LineResult.{LineResult}
 use Rattle.spec_served.specs.Served.{ServeLines, Served, ServedSome}
-use Rattle.bv_device.specs.Told.{Disk, now_of}
+use Rattle.bv_device.specs.Told.{Disk, disk_with, now_of}
+use Rattle.bv_came.proofs.Given.{right_then}
+use Rattle.bv_came.proofs.Sees.{sessions_see_all}
+use Rattle.bv_came.specs.Sees.{RanOver, SessionsShow}
+use Rattle.bv_session.specs.Disk.{ReadsRightThroughout}
 use Rattle.bv_session.specs.Events.{history_of}
 use Rattle.bv_session.specs.declared.entry.Basis.{Basis}
 use Rattle.bv_session.specs.declared.entry.Told.{Told}
 use Rattle.bv_session.proofs.EndLemmas.{cut_after, goes_does}
 use Rattle.bv_shared.proofs.CallerLemmas.{caused_more, history_is, one_disk_more}
 use Rattle.bv_shared.specs.Entries.{basis_of, device_events, entries_from, entries_in, told_of}
-use Rattle.bv_shared.specs.Since.{AreOfOneDisk}
-use Rattle.bv_store.specs.Stored.{Stored}
+use Rattle.bv_shared.proofs.StayLemmas.{going_then}
+use Rattle.bv_shared.specs.Moments.{Moment, Moments}
+use Rattle.bv_shared.specs.Since.{AreOfOneDisk, AreWithin}
+use Rattle.bv_store.specs.Stored.{Grows, Stored}
 use Rattle.bv_volume.specs.Events.{event_of}
 use Rattle.bv_volume.specs.Seen.{Seen as Volume}
 use Rattle.bv_sessions.specs.Closes.{are_whole, Closes, GivesUp, Unmounts, with_room}
 use Rattle.bv_sessions.specs.Ends.{AllEnd}
-use Rattle.bv_sessions.specs.Runs.{IsLater, Runs}
+use Rattle.bv_sessions.specs.Runs.{IsLater, Runs, SeesBy, SessionsHad}
+use Rattle.bv_sessions.proofs.MomentLemmas.{ends_within, front_split, later_moment}
 
 -- a value of a volume with no event has no entry
 pub no_entries : (v w : Volume) → w ≡ v → v.history.events ≡ [] → entries_in w ≡ []
@@ -74,6 +89,7 @@ pub record Left (lines : List ScriptLine) (first : Volume) (ends : List SessionE
   pub caused : Caused v.history first.store.faults v.store.faults
   pub rose : first.store.faults ≤ v.store.faults
   pub count : length ends ≡ 16
+  pub over : RanOver v first.store.faults lines (results_of ends)
 
 -- what was told then is one
 abbrev disk_in : Option Told → Option Disk
@@ -88,11 +104,19 @@ told_one : (a b : Option Disk) → told_of a ≡ told_of b → a ≡ b
 told_one a b e = sym (same_disk a) ∙ ap disk_in e ∙ same_disk b
 
 module _ (lines : List ScriptLine) (first v : Volume) (faults : ℕ) (ends : List SessionEnd) where
+  -- lines made the events
+  lined_by : AreLawful lines → AllEnd lines v.history ends → HasNoUnmount v.history → AreByLine [] v.history.events
+  lined_by lawful ended others = lines_add_once lines v.history lawful (λ s le. (ended s (omega (arith, le))).2.begins) (λ n d lt. let low = others n d lt in inl (omega (arith, low)))
+
   -- by what sessions say of the value that they ran over
-  pub left_of : basis_of v faults ≡ basis_of first first.store.faults → AllEnd lines (history_of (basis_of v faults) (entries_in v)) ends → HasNoUnmount (history_of (basis_of v faults) (entries_in v))
-      → Caused v.history faults v.store.faults → faults ≤ v.store.faults → AreOfOneDisk v.store.began v.store.told → length ends ≡ 16 → Left lines first ends v
-  left_of basis ended others caused rose disk count =
-      let same : faults ≡ first.store.faults = ap (λ (b : Basis). b.faults) basis in record {
+  pub left_of : basis_of v faults ≡ basis_of first first.store.faults → AllEnd lines (history_of (basis_of v faults) (entries_in v)) ends → SessionsShow (basis_of v faults) lines (entries_in v) (results_of ends)
+      → HasNoUnmount (history_of (basis_of v faults) (entries_in v)) → Caused v.history faults v.store.faults → faults ≤ v.store.faults → AreOfOneDisk v.store.began v.store.told → length ends ≡ 16
+      → AreLawful lines → Legal v.history v.next → AreMounted v.history.events → AreWithin v → Moments v → Left lines first ends v
+  left_of basis ended shows others caused rose disk count lawful legal mounted within moments =
+      let same : faults ≡ first.store.faults = ap (λ (b : Basis). b.faults) basis in
+      let ends_so : AllEnd lines v.history ends = subst (λ (h : History). AllEnd lines h ends) (history_is v faults) ended in
+      let no_others : HasNoUnmount v.history = subst HasNoUnmount (history_is v faults) others in
+      record {
         opening = ap (λ (b : Basis). b.opening) basis;
         blocks = ap (λ (b : Basis). b.geometry.blocks) basis;
         nodes = ap (λ (b : Basis). b.geometry.nodes) basis;
@@ -100,27 +124,48 @@ module _ (lines : List ScriptLine) (first v : Volume) (faults : ℕ) (ends : Lis
         next = ap (λ (b : Basis). b.next) basis;
         began = told_one v.store.began first.store.began (ap (λ (b : Basis). b.told) basis);
         disk = disk;
-        ended = subst (λ (h : History). AllEnd lines h ends) (history_is v faults) ended;
-        others = subst HasNoUnmount (history_is v faults) others;
+        ended = ends_so;
+        others = no_others;
         caused = subst (λ (f : ℕ). Caused v.history f v.store.faults) same caused;
         rose = subst (λ (f : ℕ). f ≤ v.store.faults) same rose;
         count = count;
+        over = record {
+          lawful = lawful;
+          lined = lined_by lawful ends_so no_others;
+          legal = legal;
+          mounted = mounted;
+          within = within;
+          moments = moments;
+          shows = subst (λ (f : ℕ). SessionsShow (basis_of v f) lines (entries_in v) (results_of ends)) same shows;
+        };
       }
 
 -- by what they say of the shared value, which was made of the first volume
 pub left_shared : (lines : List ScriptLine) (first shared opened u v : Volume) (faults : ℕ) (ends : List SessionEnd) → shared ≡ first → opened ≡ first → v ≡ u
-    → basis_of u faults ≡ basis_of shared opened.store.faults → AllEnd lines (history_of (basis_of u faults) (entries_in u)) ends → HasNoUnmount (history_of (basis_of u faults) (entries_in u))
-    → Caused v.history faults v.store.faults → faults ≤ v.store.faults → AreOfOneDisk v.store.began v.store.told → length ends ≡ 16 → Left lines first ends v
-left_shared lines first shared opened u v faults ends whole at is basis ended others caused rose disk count =
+    → basis_of u faults ≡ basis_of shared opened.store.faults → AllEnd lines (history_of (basis_of u faults) (entries_in u)) ends → SessionsShow (basis_of u faults) lines (entries_in u) (results_of ends)
+    → HasNoUnmount (history_of (basis_of u faults) (entries_in u))
+    → Caused v.history faults v.store.faults → faults ≤ v.store.faults → AreOfOneDisk v.store.began v.store.told → length ends ≡ 16
+    → AreLawful lines → Legal v.history v.next → AreMounted v.history.events → AreWithin v → Moments v → Left lines first ends v
+left_shared lines first shared opened u v faults ends whole at is basis ended shows others caused rose disk count lawful legal mounted within moments =
     left_of lines first v faults ends
     (ap (λ (x : Volume). basis_of x faults) is ∙ basis ∙ (λ i. basis_of (whole i) (at i).store.faults))
     (subst (λ (x : Volume). AllEnd lines (history_of (basis_of x faults) (entries_in x)) ends) (sym is) ended)
+    (subst (λ (x : Volume). SessionsShow (basis_of x faults) lines (entries_in x) (results_of ends)) (sym is) shows)
     (subst (λ (x : Volume). HasNoUnmount (history_of (basis_of x faults) (entries_in x))) (sym is) others)
-    caused rose disk count
+    caused rose disk count lawful legal mounted within moments
 
 -- no add is under way then
 pub none_left : (lines : List ScriptLine) (first v : Volume) (ends : List SessionEnd) → Left lines first ends v → Legal v.history v.next → (last_state v.history v.next).adds ≡ []
 none_left lines first v ends left legal = no_add_left lines v.history v.next legal left.others (λ s low. (left.ended s low).2.begins)
+
+-- what is there, if anything is, has P
+some_if : {A : Type 0} (P : A → Type 0) (o : Option A) → ((x : A) → o ≡ Some x → P x) → IfSome o P
+some_if P None k = tt
+some_if P (Some x) k = k x refl
+
+-- what holds throughout some events held throughout the first of them
+right_front : (xs ys : List Event) → ReadsRightThroughout (xs ++ ys) → ReadsRightThroughout xs
+right_front xs ys right = subst ReadsRightThroughout (take-append_seam xs ys) (right_then (length xs) (xs ++ ys) right)
 
 -- ---- the ends at their places
 
@@ -177,6 +222,8 @@ module _ (lines : List ScriptLine) (first : Volume) where
     safe = g.safe;
     published = λ is. absurd (cc);
     found = λ is. absurd (cc);
+    had = λ is. absurd (cc);
+    seen = λ is. absurd (cc);
     settled = λ is. absurd (cc);
   } where
     served : (s : ℕ) → ServedSome lines (record first.history { events = [] }) s []
@@ -246,6 +293,48 @@ module _ (lines : List ScriptLine) (first : Volume) where
         disk = told_of_disk u.last.store.began u.last.store.told (one_disk_more (with_room v u.room) u.last program Unmount u.reply u.happens left.disk);
       }
 
+      -- what the device then tells has grown by the unmount's events
+      grown : (b d : Disk) (more : List Event) → v.store.began ≡ Some b → v.store.told ≡ Some d → IsSettled b.trace → HoldsWhole (now_of b) (opening_map h)
+          → (last_state h first.next).stopped ≡ None → ReadsRightThroughout (d.trace ++ more) → Seen (now_of b) (d.trace ++ more) (run_of lines h ends)
+      grown b d more began told settled whole going right s low =
+          subst (λ (x : History). SeenByAll (now_of b) (d.trace ++ more) x (requests_of s lines) (results_of ends s)) (sym is_event)
+          (sessions_see_all v first.store.faults lines (results_of ends) b d more (event ∷ []) began told left.over (record {
+            settled = settled;
+            whole = subst (λ (x : History). HoldsWhole (now_of b) (opening_map x)) is_event whole;
+            going = going_then v.history v.next v.history.events (event ∷ [])
+                (subst (λ (x : History × ℕ). (last_state x.0 x.1).stopped ≡ None) (λ i. (is_event i, sym left.next i)) going);
+            right = right_front d.trace more right;
+          }) s low)
+
+      by_told : (b e : Disk) (o : Option Disk) → v.store.began ≡ Some b → u.last.store.told ≡ Some e → v.store.told ≡ o → Grows o u.last.store.told (λ d more. (more ≡ []) ⊎ MayCall Unmount)
+          → IsSettled b.trace → HoldsWhole (now_of b) (opening_map h) → (last_state h first.next).stopped ≡ None → ReadsRightThroughout e.trace → Seen (now_of b) e.trace (run_of lines h ends)
+      by_told b e None began now told grows settled whole going right = absurd (none_some (sym grows ∙ now)) where
+        none_some : None ≡ Some e → ⊥
+        none_some k = cc
+      by_told b e (Some d) began now told grows settled whole going right =
+          let same : disk_with d grows.0 ≡ e = let k : Some (disk_with d grows.0) ≡ Some e = sym grows.1 ∙ now in cc in
+          subst (λ (x : Disk). Seen (now_of b) x.trace (run_of lines h ends)) same
+          (grown b d grows.0 began told settled whole going (subst (λ (x : Disk). ReadsRightThroughout x.trace) (sym same) right))
+
+      sees : SeesBy (run_of lines h ends) first.next u.last
+      sees =
+          some_if (λ (b : Disk). IfSome u.last.store.told (λ d. IsSettled b.trace → HoldsWhole (now_of b) (opening_map h) → (last_state h first.next).stopped ≡ None → ReadsRightThroughout d.trace → Seen (now_of b) d.trace (run_of lines h ends)))
+          u.last.store.began (λ b is_b.
+          some_if (λ (d : Disk). IsSettled b.trace → HoldsWhole (now_of b) (opening_map h) → (last_state h first.next).stopped ≡ None → ReadsRightThroughout d.trace → Seen (now_of b) d.trace (run_of lines h ends))
+          u.last.store.told (λ d is_d.
+          by_told b d v.store.told (sym u.happens.began ∙ is_b) is_d refl u.happens.told))
+
+      -- what the disk had as each event of the sessions ended
+      had : SessionsHad u.last
+      had before e rest is other =
+          let split : v.history.events ++ event ∷ [] ≡ before ++ e ∷ rest = sym (ap (λ (x : History). x.events) u.happens.history) ∙ is in
+          let front = front_split v.history.events event before e rest split (λ same. other (ap (λ (x : CoreEvent). x.act) same)) in
+          let within = ends_within v.store.told v.history.events before e front.0 front.1 left.over.within in
+          let then = later_moment v.store.began v.store.told u.last.store.told (λ d more. (more ≡ []) ⊎ MayCall Unmount) v.history v.next (before ++ e ∷ []) e.calls u.happens.told within
+          (left.over.moments before e front.0 front.1) in
+          subst (λ (x : Option Disk × History × ℕ). Moment x.0 u.last.store.told x.1 x.2 (before ++ e ∷ []) e.calls)
+          (λ i. (sym u.happens.began i, sym u.happens.history i, sym u.happens.next i)) then
+
       settles : IsUnmounted h → IfSome store.told (λ d. IsSettled d.trace)
       settles k = u.settled (last_is (λ e. e.reply ≡ Unmounted) v.history.events event (subst IsUnmounted is_event k))
 
@@ -262,6 +351,8 @@ module _ (lines : List ScriptLine) (first : Volume) where
       safe = u.safe;
       published = λ is. u.published;
       found = λ is. u.found;
+      had = λ is. had u all;
+      seen = λ is. sees u all;
       settled = λ is. settles u all;
     }
     closed_runs false c = let g = c.gives refl in record {
@@ -275,6 +366,8 @@ module _ (lines : List ScriptLine) (first : Volume) where
       safe = g.safe;
       published = λ is. absurd (cc);
       found = λ is. absurd (cc);
+      had = λ is. absurd (cc);
+      seen = λ is. absurd (cc);
       settled = λ is. absurd (cc);
     }
 

@@ -2,6 +2,8 @@
 ghost use Rattle.std.specs.Prelude.{◌≡◌, ◌⊎◌, [], IfOk, IfErr, vec_len};
 ghost use Rattle.spec_script.specs.Lawful.{AreLawful};
 ghost use Rattle.spec_headline.specs.Run.{HasNoUnmount};
+ghost use Rattle.spec_session.specs.Text.{results_of};
+ghost use Rattle.bv_came.specs.Sees.{SessionsShow};
 ghost use Rattle.bv_session.specs.Events.{history_of};
 ghost use Rattle.bv_sessions.specs.Ends.{AllEnd};
 
@@ -46,6 +48,8 @@ pub fn run_all<R: Threads + Wait + Sync, V: Serves + Send, G: Gate + Sync>(
     ensures ends { IfOk result (λ r.
         AllEnd lines.now (history_of (V.basis r.0) (V.entries r.0)) r.1.items) }
     ensures count { IfOk result (λ r. vec_len r.1 ≡ 16) }
+    ensures shows { IfOk result (λ r.
+        SessionsShow (V.basis r.0) lines.now (V.entries r.0) (results_of r.1.items)) }
     ensures others { IfOk result (λ r. HasNoUnmount (history_of (V.basis r.0) (V.entries r.0))) }
     ensures err { IfErr result (λ r. r.0 ≡ value) }
 {

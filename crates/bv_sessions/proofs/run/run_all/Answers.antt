@@ -1,5 +1,5 @@
 use Rattle.std.proofs.Common.{arith, sym, ap, ◌∙◌, ◌≡◌, length}
-use Rattle.bv_sessions.proofs.BackLemmas.{back-length, back-idle, fresh_all, all_end, no_others, same_basis}
+use Rattle.bv_sessions.proofs.BackLemmas.{back-length, back-idle, fresh_all, all_end, all_show, no_others, same_basis}
 use Rattle.bv_sessions.proofs.run.run_all.Goals as goal
 
 pub run_each-shares-requires-clause-ready : goal.run_each-shares-requires-clause-ready
@@ -28,6 +28,14 @@ returns-clause-ends g c =
     let count : length shares.items ≡ 16 = sym shares.ok.0 ∙ c.in_ok-turn.ensures.count.1 in
     let basis = same_basis c.in_ok-turn.turn c.args.lines.now c.args.version (g.V.Keeps.basis c.args.value) shares.items c.in_ok-turn.ensures.shares ended.shares.items ended.ends.items c.run_each-shares.ensures.back c.close.result (omega arith) c.close.ensures.basis in
     all_end c.in_ok-turn.turn c.args.lines.now c.args.version (g.V.Keeps.basis c.args.value) shares.items c.in_ok-turn.ensures.shares ended.shares.items ended.ends.items c.run_each-shares.ensures.back c.close.result laws.session_is (ap (λ b. b.geometry.version) basis ∙ c.requires.version) count c.close.ensures.lists
+
+pub returns-clause-shows : goal.returns-clause-shows
+returns-clause-shows g c =
+    let laws = g.met.V.Serves g.world.𝓛 g.world.𝓜 g.world.𝓡 ((λ s x. x), (λ x. x), (λ x. x), λ x. x) in
+    let ended = c.run_each-shares.result in let shares = c.in_ok-turn.shares in
+    let count : length shares.items ≡ 16 = sym shares.ok.0 ∙ c.in_ok-turn.ensures.count.1 in
+    let basis = same_basis c.in_ok-turn.turn c.args.lines.now c.args.version (g.V.Keeps.basis c.args.value) shares.items c.in_ok-turn.ensures.shares ended.shares.items ended.ends.items c.run_each-shares.ensures.back c.close.result (omega arith) c.close.ensures.basis in
+    all_show c.in_ok-turn.turn c.args.lines.now c.args.version (g.V.Keeps.basis c.args.value) shares.items c.in_ok-turn.ensures.shares ended.shares.items ended.ends.items c.run_each-shares.ensures.back c.close.result laws.session_is (ap (λ b. b.geometry.version) basis ∙ c.requires.version) count c.close.ensures.lists c.close.ensures.basis
 
 pub returns-clause-count : goal.returns-clause-count
 returns-clause-count g c =
