@@ -1,0 +1,2 @@
+-- What a purge frees can be used again.
+pub mod Reuse

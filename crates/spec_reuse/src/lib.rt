@@ -1,0 +1,4 @@
+//! What a purge frees can be used again.
+#![tactic(auto)]
+
+pub mod laws;
