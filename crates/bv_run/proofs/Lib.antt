@@ -1,5 +1,6 @@
 -- Lemmas on words, sources, statuses, answers and runs.
 pub mod AskedLemmas
+pub mod CalmLemmas
 pub mod CompleteLemmas
 pub mod MakingLemmas
 pub mod RanLemmas

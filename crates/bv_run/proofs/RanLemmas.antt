@@ -1,16 +1,34 @@
 -- From the sessions over a mounted volume to what became of its device.
-use Rattle.std.proofs.Common.{◌≡◌, ℕ, Bool, true, false, List, drop, Option, None, Some, Result, Ok, Err, refl, ap, sym, ◌∙◌, subst}
+use Rattle.std.proofs.Common.{◌≡◌, ℕ, Bool, true, false, List, [], ◌∷◌, ◌++◌, drop, take, Option, None, Some, Result, Ok, Err, refl, ap, sym, ◌∙◌, subst, append_assoc}
 use Rattle.std.specs.Prelude.{IfSome, IsSomeAnd, option_map}
 use Rattle.std.proofs.lemmas.List.{take-append-drop}
 use Rattle.spec_disk.specs.declared.event.Event.{Event}
 use Rattle.spec_disk.specs.Images.{IsSettled}
-use Rattle.spec_core.specs.History.{History}
+use Rattle.spec_tree.specs.declared.Digest.{Digest}
+use Rattle.spec_tree.specs.declared.blob.Blob.{Blob}
+use Rattle.spec_core.specs.History.{History, last_state, opening_map}
+use Rattle.spec_core.specs.State.{find}
+use Rattle.spec_core.specs.declared.act.Act.{Act}
+use Rattle.spec_core.specs.declared.act.Act.TheVariants.{Unmount}
+use Rattle.spec_core.specs.declared.event.CoreEvent.{CoreEvent}
+use Rattle.spec_crash.specs.Crash.{HoldsWhole}
 use Rattle.spec_script.specs.Lawful.{AreLawful}
 use Rattle.spec_script.specs.declared.line.ScriptLine.{ScriptLine}
+use Rattle.spec_session.specs.Conform.{events_of}
+use Rattle.spec_session.specs.Own.{Named}
 use Rattle.spec_session.specs.declared.end.SessionEnd.{SessionEnd}
-use Rattle.spec_headline.specs.Run.{Run, CutShort, Ended, HasWholeBlobs, OpensWith, run_of}
+use Rattle.spec_served.specs.Adds.{AreByLine}
+use Rattle.spec_served.specs.Device.{At, blob_by}
+use Rattle.spec_seen.proofs.ByLineLemmas.{front_by}
+use Rattle.spec_seen.specs.Held.{up_to}
+use Rattle.spec_headline.specs.Run.{Run, CutShort, Ended, HasWholeBlobs, OpensWith, Seen as SeenOf, run_of}
 use Rattle.spec_headline.specs.Headline.{IsUnmounted, LeavesSettled, LeavesSound, Survives}
 use Rattle.spec_unmounted.proofs.Leaving.{leaves_all}
+use Rattle.spec_complete.specs.Fit.{IsAbout}
+use Rattle.spec_complete.specs.Sound.{HoldsThere}
+use Rattle.spec_complete.proofs.Holding.{held_lines_fit}
+use Rattle.spec_complete.proofs.Meeting.{meet_none}
+use Rattle.spec_complete.proofs.Moving.{lines_hold}
 use Rattle.bv_claims.specs.declared.claims.Claims.{Claims}
 use Rattle.bv_device.specs.Seen.{Seen}
 use Rattle.bv_device.specs.Told.{Disk, disk_with, now_of}
@@ -19,8 +37,12 @@ use Rattle.bv_journaled.specs.Standing.{Standing, stored_of}
 use Rattle.bv_mount.specs.declared.inspected.Inspected.{Inspected}
 use Rattle.bv_mounted.specs.Mounts.{Gives, Mounts, recovered}
 use Rattle.bv_mounted.specs.Opens.{GoesOn}
+use Rattle.bv_mounted.proofs.ImageLemmas.{holds_whole}
 use Rattle.bv_mounted.proofs.OpensLemmas.{opens_with_its_image, survives_from_its_image}
+use Rattle.bv_session.specs.Disk.{ReadsRightThroughout}
 use Rattle.bv_sessions.specs.Runs.{Runs}
+use Rattle.bv_shared.proofs.StayLemmas.{going_then}
+use Rattle.bv_shared.specs.Moments.{BeganWhole, HasItsBlob, Moment, held_by}
 use Rattle.bv_shared.specs.Since.{AreOfOneDisk}
 use Rattle.bv_store.specs.Stored.{Stored}
 use Rattle.bv_volume.specs.Seen.{Seen as Volume}
@@ -31,7 +53,8 @@ use Rattle.bv_run.specs.Mounted.{RunsOver}
 use Rattle.bv_run.specs.Outcomes.{Came}
 use Rattle.bv_run.specs.Reports.{OutOfMemory, Done}
 use Rattle.bv_run.specs.Runs.{Went}
-use Rattle.bv_run.proofs.SoundLemmas.{if_some, leaves_sound}
+use Rattle.bv_run.specs.Told.{IsSeen, MeetsNone}
+use Rattle.bv_run.proofs.SoundLemmas.{by_line, if_some, leaves_sound}
 
 some_and : {A : Type 0} (P : A → Type 0) (o : Option A) (x : A) → o ≡ Some x → IsSomeAnd o P → P x
 some_and {A} P o x is h = let Q : Option A → Type 0 = λ y. IsSomeAnd y P in subst Q is h
@@ -48,6 +71,11 @@ one_disk i (Some d) = refl
 pub mounted_disk : (old : Seen) (i : Inspected) (claims : Claims) (v : Volume) → Mounts old i claims v → AreOfOneDisk v.store.began v.store.told
 mounted_disk old i claims v m =
     subst (λ (p : Option Disk × Option Disk). AreOfOneDisk p.0 p.1) (λ k. ((sym m.began) k, (sym m.told) k)) (one_disk i old.told)
+
+-- the own event of a line that opens, reads or scans a blob is no unmount
+no_unmount : (before : List CoreEvent) (e : CoreEvent) (blob : Named) → blob_by (events_of e.who.session before) e.act e.reply ≡ Some blob → ¬ (e.act ≡ Unmount)
+no_unmount before e blob is same =
+    let none : None ≡ Some blob = subst (λ (a : Act). blob_by (events_of e.who.session before) a e.reply ≡ Some blob) same is in cc
 
 -- ---- what a run leaves
 
@@ -137,6 +165,46 @@ module _ (old : Seen) (i : Inspected) (claims : Claims) (first : Volume) (m : Mo
         leaves_sound lines lawful last d (since s.opened e) was last_told same (runs.published full) (runs.found full) settled blobs
         h first.next (sym runs.history_is) runs.later.next opens ended.legal ended.conform ended.unmount unmounted
 
+    -- what the results say of the device
+    sees : whole ≡ true → IsSettled d.trace → HasWholeBlobs (now_of d) → OpensWith (now_of d) h first.next → IsSeen (now_of d) events run first.next
+    sees full settled blobs opens right going =
+        let was : last.store.began ≡ Some d = runs.later.began ∙ (m.began ∙ is) in
+        let at =
+        if_some (λ b. IfSome last.store.told (λ t. IsSettled b.trace → HoldsWhole (now_of b) (opening_map h) → (last_state h first.next).stopped ≡ None → ReadsRightThroughout t.trace → SeenOf (now_of b) t.trace run))
+        last.store.began d was (runs.seen full) in
+        if_some (λ t. IsSettled d.trace → HoldsWhole (now_of d) (opening_map h) → (last_state h first.next).stopped ≡ None → ReadsRightThroughout t.trace → SeenOf (now_of d) t.trace run)
+        last.store.told (since s.opened e) last_told at
+        settled (record { is = opens.map; whole = holds_whole (now_of d) (opening_map h) opens.map blobs }) going right
+
+    -- as the own event of a line that opens, reads or scans a blob ended, the disk had the blob
+    line_has : AreLawful lines → whole ≡ true → IsSettled d.trace → HasWholeBlobs (now_of d) → OpensWith (now_of d) h first.next → (last_state h first.next).stopped ≡ None
+        → (at : At) → IsAbout h at → (blob : Blob) → find (last_state (up_to h (at.before ++ at.own ∷ [])) first.next).map at.blob.0 ≡ Some blob
+        → HoldsThere (now_of d) (take at.own.calls events) (at.before ++ at.own ∷ []) at.blob.0 blob
+    line_has lawful full settled blobs opens going at about blob found =
+        let then : List CoreEvent = at.before ++ at.own ∷ [] in
+        let was : last.store.began ≡ Some d = runs.later.began ∙ (m.began ∙ is) in
+        let split : h.events ≡ then ++ about.rest = about.is ∙ sym (append_assoc at.before (at.own ∷ []) about.rest) in
+        let mine = runs.had full at.before at.own about.rest (ap (λ (x : History). x.events) (sym runs.history_is) ∙ about.is) (no_unmount at.before at.own at.blob about.blob) in
+        let moment : Moment last.store.began last.store.told h first.next then at.own.calls =
+        subst (λ (p : History × ℕ). Moment last.store.began last.store.told p.0 p.1 then at.own.calls) (λ k. ((sym runs.history_is) k, runs.later.next k)) mine in
+        let began_so : BeganWhole (Some d) h = (settled, record { is = opens.map; whole = holds_whole (now_of d) (opening_map h) opens.map blobs }) in
+        let ended = runs.ended full in
+        let all = moment (subst (λ (o : Option Disk). BeganWhole o h) (sym was) began_so)
+        (going_then h first.next then about.rest (subst (λ (es : List CoreEvent). (last_state (up_to h es) first.next).stopped ≡ None) split going))
+        (front_by [] then about.rest (subst (AreByLine []) split (by_line lines h lawful ended.conform ended.unmount))) in
+        let Its : Disk → Disk → Type 0 = λ x y. (root : Digest) (b : Blob) → find (last_state (up_to h then) first.next).map root ≡ Some b
+        → HasItsBlob (now_of x) (take at.own.calls y.trace) then root b in
+        let its = if_some (λ y. Its d y) last.store.told (since s.opened e) last_told (if_some (λ x. IfSome last.store.told (λ y. Its x y)) last.store.began d was all) at.blob.0 blob found in
+        record { opening = λ none. its.4 ∙ ap (held_by (now_of d) (take at.own.calls events) then at.blob.0) none; published = its.5 }
+
+    -- over sound blobs no line meets a mismatch
+    meets : AreLawful lines → whole ≡ true → IsSettled d.trace → HasWholeBlobs (now_of d) → OpensWith (now_of d) h first.next → MeetsNone (now_of d) events run first.next
+    meets lawful full settled blobs opens right going sound =
+        let ended = runs.ended full in
+        meet_none (now_of d) events run lawful ended.served (sees full settled blobs opens right going)
+        (held_lines_fit (now_of d) events h first.next ended.legal opens.map sound
+        (lines_hold (now_of d) events h first.next ended.legal (line_has lawful full settled blobs opens going)))
+
   ran_done : AreLawful lines → whole ≡ true → Went None (Done run first.next) old new
   ran_done lawful full = record {
     begins = ran_begins;
@@ -154,6 +222,8 @@ module _ (old : Seen) (i : Inspected) (claims : Claims) (first : Volume) (m : Mo
               leaves d e is is_new full survives unmounted,
               leaves_these d e is is_new lawful full premises.0 premises.1 survives.opens unmounted,
             ),
+            sees d e is is_new full premises.0 premises.1 survives.opens,
+            meets d e is is_new lawful full premises.0 premises.1 survives.opens,
           );
         };
   }

@@ -110,7 +110,7 @@ of_sessions h ends =
     (All-push (λ (e : CoreEvent). (e.who.session ≤ 15) ⊎ (e.act ≡ Unmount)) ends.sessions ends.unmount
     (λ k d lt. let low = ends.others k d lt in inl (omega (arith, low))) (inr ends.act))
 
-by_line : (lines : List ScriptLine) (h : History) → AreLawful lines → ((s : ℕ) → s < 16 → Conform lines h s) → EndsWithUnmount h → AreByLine [] h.events
+pub by_line : (lines : List ScriptLine) (h : History) → AreLawful lines → ((s : ℕ) → s < 16 → Conform lines h s) → EndsWithUnmount h → AreByLine [] h.events
 by_line lines h lawful conform ends = lines_add_once lines h lawful (λ s le. begins lines h s (conform s (omega (arith, le)))) (of_sessions h ends)
 
 -- ---- who published a root of the log
