@@ -1,5 +1,5 @@
 -- What a mount begins with, and what it answers (this project's profile).
-use Rattle.std.specs.Prelude.{◌≡◌, ℕ, List, [], length, map, Some, None, option_map, Err, IfSome}
+use Rattle.std.specs.Prelude.{◌≡◌, ◌+◌, ℕ, List, [], length, map, Some, None, option_map, Err, IfSome}
 use Rattle.std.specs.List.{flat_map}
 use Rattle.spec_tree.specs.declared.Digest.{Digest}
 use Rattle.spec_disk.specs.Images.{IsSettled}
@@ -12,6 +12,8 @@ use Rattle.spec_inspect.specs.declared.mount_fault.MountFault.{MountFault}
 use Rattle.spec_inspect.specs.declared.mount_fault.MountFault.TheVariants as mount
 use Rattle.spec_core.specs.History.{History, opening_map}
 use Rattle.spec_rest.specs.Rest.{Map}
+use Rattle.bv_claims.specs.Blocks.{HasEachOnce}
+use Rattle.bv_claims.specs.Tokens.{block_count}
 use Rattle.bv_claims.specs.declared.claims.Claims.{Claims}
 use Rattle.bv_device.specs.Told.{Disk, now_of}
 use Rattle.bv_device.specs.Seen.{Seen, Performs}
@@ -24,6 +26,7 @@ use Rattle.bv_journaled.specs.Since.{began_at, since}
 use Rattle.bv_journaled.specs.Standing.{Standing}
 use Rattle.bv_txn.specs.Metas.{MetaBlocks}
 use Rattle.bv_volume.specs.Seen.{Seen as Volume, IsSafe}
+use Rattle.bv_mounted.specs.declared.prepared.Prepared.{Prepared}
 use Rattle.bv_mounted.specs.declared.taken.Taken.{Taken}
 
 -- the blobs of an inspected volume
@@ -55,6 +58,21 @@ pub record Takes (i : Inspected) (t : Taken) : Type 0 where
   pub blobs_are : t.blobs.items ≡ records_in i
   pub ring_is : t.ring
       ≡ cursor_at i.geometry i.replay.next_slot i.replay.next_number (ring_slots i.geometry)
+
+-- the parts of the volume are made: its history and its map, the ring that a recovery leaves, and the
+-- reservations of this table, where the boss owns the blocks of the blobs
+pub record Prepares (i : Inspected) (claims : Claims) (p : Prepared) : Type 0 where
+  pub history_is : p.history ≡ record { history = history_of i; spare = 0 }
+  pub map_is : p.map.entries ≡ blob_map (records_in i)
+  pub ring_is : p.ring
+      ≡ cursor_at i.geometry i.replay.next_slot i.replay.next_number (ring_slots i.geometry)
+  pub blocks : block_count claims ≡ i.geometry.blocks
+  pub table : p.space.claims ≡ claims
+  pub owned : p.space.owned ≡ blocks_of_all (records_in i)
+  pub once : HasEachOnce p.space.owned
+  pub room : p.space.room + length (blocks_of_all (records_in i)) + 1 ≡ block_count claims
+  pub none : (p.space.adds ≡ []) × (p.space.gone ≡ []) × (p.space.nodes ≡ [])
+  pub spare : p.space.spare ≡ 0
 
 -- a store as a mount begins with it: nothing is purged, and no entry planned
 abbrev pub first_standing : Seen → ℕ → MetaBlocks → Cursor → Standing

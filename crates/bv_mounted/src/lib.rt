@@ -5,6 +5,7 @@ mod holding;
 mod laws;
 mod mounting;
 mod opening;
+mod prepared;
 mod taken;
 mod taking;
 
@@ -13,3 +14,4 @@ pub use laws::{
     a_mounted_volume_survives_from_its_image, a_refused_mount_survives,
 };
 pub use mounting::mount;
+pub use prepared::Prepared;

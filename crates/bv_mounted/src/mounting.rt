@@ -4,8 +4,7 @@ ghost use Rattle.spec_record.specs.Geometry.{total_blocks};
 ghost use Rattle.bv_claims.specs.Tokens.{IsBossOf, block_count, boss_owned, boss_room};
 ghost use Rattle.bv_mounted.specs.Mounts.{Gives, Mounts, Refused};
 
-use crate::opening::volume_of;
-use crate::taking::take_memory;
+use crate::prepared::Prepared;
 use bv_claims::{Boss, Claims};
 use bv_device::{Device, DeviceFault};
 use bv_journaled::JournaledStore;
@@ -36,13 +35,13 @@ pub fn mount<'t, D: Device>(
     ensures ok { IfOk result (Mounts (D.seen dev) inspected claims.now) }
     ensures err { IfErr result (λ e. Refused (D.seen dev) inspected (D.seen e.0) e.1) }
 {
-    let taken = match take_memory(alloc, &inspected) {
-        Ok(taken) => taken,
+    let prepared = match Prepared::new(alloc, &inspected, claims, boss) {
+        Ok(prepared) => prepared,
         Err(AllocError) => return Err((dev, MountFault::NoMemory)),
     };
     let opened = dev.calls();
     match recover(&mut dev, inspected.geometry, &inspected.replay) {
-        Ok(()) => Ok(volume_of(alloc, dev, opened, inspected, taken, claims, boss)),
+        Ok(()) => Ok(prepared.start(alloc, dev, opened, inspected, claims)),
         Err(DeviceFault { fault }) => Err((dev, MountFault::DeviceFault { fault })),
     }
 }

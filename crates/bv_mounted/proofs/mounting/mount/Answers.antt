@@ -1,14 +1,14 @@
 use Rattle.bv_mounted.proofs.MountLemmas.{was_recovered, mounts, refused}
 use Rattle.bv_mounted.proofs.mounting.mount.Goals as goal
 
-pub volume_of-requires-clause-told : goal.volume_of-requires-clause-told
-volume_of-requires-clause-told g c =
+pub start-requires-clause-told : goal.start-requires-clause-told
+start-requires-clause-told g c =
     was_recovered c.args.inspected c.calls-opened.result (g.D.Device.seen c.args.dev) (g.D.Device.seen c.recover.new.dev) c.calls-opened.ensures.exact (g.met.D.Device.told_calls c.args.dev) c.requires.gives c.in-Ok-recover.ensures.performs
 
 pub returns-in-Ok-recover-clause-ok : goal.returns-in-Ok-recover-clause-ok
 returns-in-Ok-recover-clause-ok g c =
-    mounts c.args.inspected c.args.claims.now c.calls-opened.result (g.D.Device.seen c.args.dev) (g.D.Device.seen c.recover.new.dev) c.in-Ok.taken.ring c.volume_of.result c.calls-opened.ensures.exact (g.met.D.Device.told_calls c.args.dev) c.requires.gives
-    c.in-Ok-recover.ensures.performs c.volume_of.ensures.history c.volume_of.ensures.next c.volume_of.ensures.spare c.volume_of.ensures.claims c.volume_of.ensures.store c.volume_of.ensures.crash
+    mounts c.args.inspected c.args.claims.now c.calls-opened.result (g.D.Device.seen c.args.dev) (g.D.Device.seen c.recover.new.dev) c.in-Ok.prepared.ring c.start.result c.calls-opened.ensures.exact (g.met.D.Device.told_calls c.args.dev) c.requires.gives
+    c.in-Ok-recover.ensures.performs c.start.ensures.history c.start.ensures.next c.start.ensures.spare c.start.ensures.claims c.start.ensures.store c.start.ensures.crash
 
 pub returns-clause-err : goal.returns-clause-err
 returns-clause-err g c =
