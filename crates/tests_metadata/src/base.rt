@@ -148,7 +148,7 @@ pub fn rest_of(lost: Lost) -> &'static [SurveyFault] {
 }
 
 /// Puts bytes over those of a block, as far as it goes.
-fn put(block: &mut Block, at: usize, bytes: &[u8]) {
+pub fn put(block: &mut Block, at: usize, bytes: &[u8]) {
     for (place, byte) in block.iter_mut().skip(at).zip(bytes) {
         *place = *byte;
     }
@@ -169,20 +169,24 @@ fn blocks_of(version: u32) -> [Block; 3] {
     blocks
 }
 
-/// These blocks as the metadata of a volume of 64 data blocks, 128 nodes and 16 journal blocks.
-fn metadata(version: u32, blocks: Vec<Block>) -> Result<Meta, Fail> {
-    if version < 1 || 2 < version {
+/// These blocks as the metadata of a volume.
+pub fn metadata(geometry: Geometry, blocks: Vec<Block>) -> Result<Meta, Fail> {
+    if geometry.version < 1 || 2 < geometry.version {
         return Err(Fail::from("the version"));
     }
-    let geometry = Geometry {
+    match check_counts(&geometry) {
+        Ok(()) if blocks.len() as u64 == geometry.meta() => Ok(Meta::new(geometry, blocks)),
+        _ => Err(Fail::from("the counts")),
+    }
+}
+
+/// 64 data blocks, 128 nodes and 16 journal blocks.
+const fn geometry(version: u32) -> Geometry {
+    Geometry {
         blocks: 64,
         nodes: 128,
         journal: 16,
         version,
-    };
-    match check_counts(&geometry) {
-        Ok(()) if blocks.len() as u64 == geometry.meta() => Ok(Meta::new(geometry, blocks)),
-        _ => Err(Fail::from("the counts")),
     }
 }
 
@@ -194,7 +198,7 @@ pub fn edited(alloc: Global, version: u32, edits: &[Edit]) -> Result<Meta, Fail>
             put(block, edit.at, edit.bytes);
         }
     }
-    metadata(version, Vec::from_slice(alloc, &blocks)?)
+    metadata(geometry(version), Vec::from_slice(alloc, &blocks)?)
 }
 
 /// The metadata where the highest bit of one byte of a node is turned.
@@ -204,5 +208,5 @@ pub fn turned(alloc: Global, version: u32, node: u32, place: usize) -> Result<Me
     if let Some(byte) = blocks[2].get_mut(at) {
         *byte ^= 0x80;
     }
-    metadata(version, Vec::from_slice(alloc, &blocks)?)
+    metadata(geometry(version), Vec::from_slice(alloc, &blocks)?)
 }

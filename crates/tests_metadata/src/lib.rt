@@ -5,8 +5,14 @@
 #[cfg(test)]
 mod base;
 #[cfg(test)]
+mod bits;
+#[cfg(test)]
 mod bytes_of_nodes;
 #[cfg(test)]
 mod extents;
+#[cfg(test)]
+mod orders;
+#[cfg(test)]
+mod rings;
 #[cfg(test)]
 mod surveys;

@@ -14,10 +14,10 @@ use std::test::Fail;
 /// What is put over the metadata; the first faults that a survey finds; and which blob isn't read any
 /// more, by which bits and counts are wrong too.
 #[derive(Clone, Copy, Debug)]
-struct Row<'a> {
-    edits: &'a [Edit<'a>],
-    faults: &'a [SurveyFault],
-    lost: Lost,
+pub struct Row<'a> {
+    pub edits: &'a [Edit<'a>],
+    pub faults: &'a [SurveyFault],
+    pub lost: Lost,
 }
 
 /// The blocks of the metadata.
@@ -41,7 +41,7 @@ fn finds<R: Abort>(rt: &R, alloc: Global, version: u32, row: &Row) -> Result<(),
     Ok(())
 }
 
-fn all_find<R: Abort>(rt: &R, alloc: Global, rows: &[Row]) -> Result<(), Fail> {
+pub fn all_find<R: Abort>(rt: &R, alloc: Global, rows: &[Row]) -> Result<(), Fail> {
     for row in rows {
         for version in [1, 2] {
             finds(rt, alloc, version, row)?;
@@ -51,7 +51,7 @@ fn all_find<R: Abort>(rt: &R, alloc: Global, rows: &[Row]) -> Result<(), Fail> {
 }
 
 /// A byte of the node map, and those behind it.
-const fn nodes(at: usize, bytes: &[u8]) -> Edit<'_> {
+pub const fn nodes(at: usize, bytes: &[u8]) -> Edit<'_> {
     Edit {
         block: NODES,
         at,
@@ -60,12 +60,12 @@ const fn nodes(at: usize, bytes: &[u8]) -> Edit<'_> {
 }
 
 /// The small blob isn't read, and why.
-const fn small(fault: NodeFault) -> [SurveyFault; 1] {
+pub const fn small(fault: NodeFault) -> [SurveyFault; 1] {
     [Node { node: 0, fault }]
 }
 
 /// The large blob isn't read, and why; so its containers are in no chain.
-const fn large(fault: NodeFault) -> [SurveyFault; 3] {
+pub const fn large(fault: NodeFault) -> [SurveyFault; 3] {
     [
         Node { node: 1, fault },
         Node {
