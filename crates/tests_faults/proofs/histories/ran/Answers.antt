@@ -1,0 +1,5 @@
+use Rattle.bv_mounted.proofs.CallerLemmas.{inspect_gives}
+use Rattle.tests_faults.proofs.histories.ran.Goals as goal
+
+pub mount-requires-clause-gives : goal.mount-requires-clause-gives
+mount-requires-clause-gives g c = inspect_gives c.in-Ok-inspect.inspected _ _ c.in-Ok-inspect.ensures.reads
