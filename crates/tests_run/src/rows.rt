@@ -2,7 +2,8 @@
 
 use crate::runs::prints;
 use crate::texts::{
-    EMPTY_BLOB, EMPTY_SCRIPT, LEAVING_ROOT, NO_NEWLINE, SLOT_REFUSALS, STORED_RUN, USAGE,
+    EMPTY_BLOB, EMPTY_SCRIPT, KEPT_PAGES, LEAVING_ROOT, NO_NEWLINE, SLOT_REFUSALS, STORED_RUN,
+    USAGE,
 };
 use bv_device::MemDevice;
 use bv_run::Status;
@@ -11,10 +12,17 @@ use std::test::Fail;
 /// The words that make a volume which needs 83 blocks: 3 of metadata, 16 of the journal and 64 of data.
 const FRESH: &str = "fresh 64 128 16";
 
+/// The report of a volume whose only blob was purged.
+const CLEAN: &str = "check: clean
+blobs 0
+bytes 0
+stale 0
+";
+
 #[test]
 fn each_line_has_its_answer_and_each_event_its_line(rt: HostRuntime) -> Result<(), Fail> {
     let alloc = rt.alloc();
-    prints(
+    let dev = prints(
         &rt,
         alloc,
         MemDevice::new(alloc, 83)?,
@@ -33,6 +41,7 @@ fn each_line_has_its_answer_and_each_event_its_line(rt: HostRuntime) -> Result<(
         Status::Ok,
         STORED_RUN,
     )?;
+    prints(&rt, alloc, dev, ("check", ""), Status::Ok, CLEAN)?;
     prints(
         &rt,
         alloc,
@@ -79,8 +88,10 @@ fn a_blob_that_leaves_and_a_slot_that_is_taken_are_refused(rt: HostRuntime) -> R
             "0 add hex:6869
 0 open 0 hex:6869
 0 open 0 hex:6869
+0 open 1 hex:6a
 0 read 5 0 1
 0 close 5
+0 unlink hex:6a
 ",
         ),
         Status::Ok,
@@ -105,6 +116,29 @@ fn a_blob_that_leaves_and_a_slot_that_is_taken_are_refused(rt: HostRuntime) -> R
         ),
         Status::Ok,
         LEAVING_ROOT,
+    )?;
+    Ok(())
+}
+
+#[test]
+fn no_window_of_a_blob_that_was_closed_is_fetched_again(rt: HostRuntime) -> Result<(), Fail> {
+    let alloc = rt.alloc();
+    prints(
+        &rt,
+        alloc,
+        MemDevice::new(alloc, 83)?,
+        (
+            FRESH,
+            "0 add seq:0:73728
+0 open 0 seq:0:73728
+0 scan 0
+0 close 0
+0 open 1 seq:0:73728
+0 scan 1
+",
+        ),
+        Status::Ok,
+        KEPT_PAGES,
     )?;
     Ok(())
 }

@@ -56,13 +56,15 @@ pub const EMPTY_SCRIPT: &str = "history
 1 16 0 unmount unmounted @
 ";
 
-/// Slots that are taken or hold nothing.
+/// Slots that are taken or hold nothing, and a blob that isn't there.
 pub const SLOT_REFUSALS: &str = "session 0
 1 add df6d2bb7dac8a27c99a0ac498fabc106e94eab93dc88d40b2e313aeae33cb5a6 published
 2 open 0 df6d2bb7dac8a27c99a0ac498fabc106e94eab93dc88d40b2e313aeae33cb5a6 opened 2
 3 open 0 df6d2bb7dac8a27c99a0ac498fabc106e94eab93dc88d40b2e313aeae33cb5a6 slot-taken
-4 read 5 0 1 bad-slot
-5 close 5 bad-slot
+4 open 1 7287bb0e6f343873c9d2e8d9750709bade01074c6fb338f13975c4986b77e7b9 not-found
+5 read 5 0 1 bad-slot
+6 close 5 bad-slot
+7 unlink 7287bb0e6f343873c9d2e8d9750709bade01074c6fb338f13975c4986b77e7b9 not-found
 history
 1 0 1 begin df6d2bb7dac8a27c99a0ac498fabc106e94eab93dc88d40b2e313aeae33cb5a6 2 granted @
 2 0 1 admit df6d2bb7dac8a27c99a0ac498fabc106e94eab93dc88d40b2e313aeae33cb5a6 admitted @
@@ -71,9 +73,11 @@ history
 5 0 2 open 0 df6d2bb7dac8a27c99a0ac498fabc106e94eab93dc88d40b2e313aeae33cb5a6 opened 2 @
 6 0 2 fetch 0 0 fetched @
 7 0 3 open 0 df6d2bb7dac8a27c99a0ac498fabc106e94eab93dc88d40b2e313aeae33cb5a6 slot-taken @
-8 0 4 read 5 0 1 bad-slot @
-9 0 5 close 5 bad-slot @
-10 16 0 unmount unmounted @
+8 0 4 open 1 7287bb0e6f343873c9d2e8d9750709bade01074c6fb338f13975c4986b77e7b9 not-found @
+9 0 5 read 5 0 1 bad-slot @
+10 0 6 close 5 bad-slot @
+11 0 7 unlink 7287bb0e6f343873c9d2e8d9750709bade01074c6fb338f13975c4986b77e7b9 not-found @
+12 16 0 unmount unmounted @
 ";
 
 /// A blob that is there, that leaves, and that is added again.
@@ -105,6 +109,38 @@ history
 15 0 9 put 0 written @
 16 0 9 settle df6d2bb7dac8a27c99a0ac498fabc106e94eab93dc88d40b2e313aeae33cb5a6 published @
 17 16 0 unmount unmounted @
+";
+
+/// The pages of a blob that is closed and opened again: no window is fetched twice.
+pub const KEPT_PAGES: &str = "session 0
+1 add 2aa6702783790f06dd3a329ae1e9caa91916fca3264ab73971d4e09d57fcca6e published
+2 open 0 2aa6702783790f06dd3a329ae1e9caa91916fca3264ab73971d4e09d57fcca6e opened 73728
+3 scan 0 whole 73728
+4 close 0 closed
+5 open 1 2aa6702783790f06dd3a329ae1e9caa91916fca3264ab73971d4e09d57fcca6e opened 73728
+6 scan 1 whole 73728
+history
+1 0 1 begin 2aa6702783790f06dd3a329ae1e9caa91916fca3264ab73971d4e09d57fcca6e 73728 granted @
+2 0 1 admit 2aa6702783790f06dd3a329ae1e9caa91916fca3264ab73971d4e09d57fcca6e admitted @
+3 0 1 put 0 written @
+4 0 1 put 1 written @
+5 0 1 put 2 written @
+6 0 1 put 3 written @
+7 0 1 put 4 written @
+8 0 1 put 5 written @
+9 0 1 put 6 written @
+10 0 1 put 7 written @
+11 0 1 put 8 written @
+12 0 1 put 9 written @
+13 0 1 settle 2aa6702783790f06dd3a329ae1e9caa91916fca3264ab73971d4e09d57fcca6e published @
+14 0 2 open 0 2aa6702783790f06dd3a329ae1e9caa91916fca3264ab73971d4e09d57fcca6e opened 73728 @
+15 0 2 fetch 0 1 fetched @
+16 0 3 scan 0 reading @
+17 0 3 fetch 0 0 fetched @
+18 0 4 close 0 closed @
+19 0 5 open 1 2aa6702783790f06dd3a329ae1e9caa91916fca3264ab73971d4e09d57fcca6e opened 73728 @
+20 0 6 scan 1 reading @
+21 16 0 unmount unmounted @
 ";
 
 /// The line of words that write no command.

@@ -58,7 +58,46 @@ const STOPPED_ANSWERS: &str = "session 0
 history
 ";
 
+/// The report of a volume with this blob.
+const CLEAN: &str = "check: clean
+blobs 1
+bytes 2
+stale 0
+";
+
 const LIST: &str = "df6d2bb7dac8a27c99a0ac498fabc106e94eab93dc88d40b2e313aeae33cb5a6 2
+";
+
+/// A blob of 257 blocks, whose tree has 259 digests: three blocks in version 1, two in version 2.
+const LARGE: &str = "0 add seq:0:2097153
+0 open 0 seq:0:2097153
+0 scan 0
+0 read 0 2097152 1
+";
+
+const LARGE_ANSWERS: &str = "session 0
+1 add 4962e57570f6dd59a5ffed710bf4d82e61d43c3324daea255855114ab0fb9795 published
+2 open 0 4962e57570f6dd59a5ffed710bf4d82e61d43c3324daea255855114ab0fb9795 opened 2097153
+3 scan 0 whole 2097153
+4 read 0 2097152 1 bytes 1 00
+history
+";
+
+/// Another of that size, and the largest that the room is too small for, and that fits.
+const NEWER: &str = "0 add seq:1:2097153
+0 open 0 seq:0:2097153
+0 scan 0
+0 add fill:41:4120576
+0 add fill:41:4112384
+";
+
+const NEWER_ANSWERS: &str = "session 0
+1 add 3d39557ddc2190f158e0b92517d280c27432d3885109caf1b493c546bdc89829 published
+2 open 0 4962e57570f6dd59a5ffed710bf4d82e61d43c3324daea255855114ab0fb9795 opened 2097153
+3 scan 0 whole 2097153
+4 add 13130a55c0765b0cc8151d7c3f105299f0c68e08e7cfaa6639f97ff9d5ea2739 no-space 505 504
+5 add 37b6b8d9fa9bbc324c3e4ba3954cfa60ba90311b567229ace6249fa96515b03e published
+history
 ";
 
 const DEMO: &str = "demo 16
@@ -94,7 +133,8 @@ fn after_a_failed_sync_nothing_is_written_and_reads_go_on(rt: HostRuntime) -> Re
     let alloc = rt.alloc();
     let dev = MemDevice::new(alloc, 83)?;
     let made = ("fresh 64 128 16", "0 add hex:6869");
-    let mut dev = begins(&rt, alloc, dev, made, Status::Ok, "session 0")?;
+    let dev = begins(&rt, alloc, dev, made, Status::Ok, "session 0")?;
+    let mut dev = prints(&rt, alloc, dev, ("check", ""), Status::Ok, CLEAN)?;
     dev.fail(alloc, CallKind::Sync, 1)?;
     let dev = begins(
         &rt,
@@ -113,5 +153,26 @@ fn the_demonstration_counts_what_it_did(rt: HostRuntime) -> Result<(), Fail> {
     let alloc = rt.alloc();
     let dev = MemDevice::new(alloc, 4200)?;
     prints(&rt, alloc, dev, ("demo 16", ""), Status::Ok, DEMO)?;
+    Ok(())
+}
+
+#[test]
+fn a_blob_of_either_version_is_read_in_a_volume_of_the_newer(rt: HostRuntime) -> Result<(), Fail> {
+    let alloc = rt.alloc();
+    let dev = MemDevice::new(alloc, 531)?;
+    let newest = ("fresh2 512 128 16", LARGE);
+    begins(&rt, alloc, dev, newest, Status::Ok, LARGE_ANSWERS)?;
+    let dev = MemDevice::new(alloc, 1043)?;
+    let old = ("fresh 1024 128 16", LARGE);
+    let dev = begins(&rt, alloc, dev, old, Status::Ok, LARGE_ANSWERS)?;
+    let dev = prints(&rt, alloc, dev, ("upgrade", ""), Status::Ok, "upgraded 0\n")?;
+    begins(
+        &rt,
+        alloc,
+        dev,
+        ("script", NEWER),
+        Status::Ok,
+        NEWER_ANSWERS,
+    )?;
     Ok(())
 }
