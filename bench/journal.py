@@ -1,6 +1,7 @@
-"""Scans of a ring full of entries on a device in memory, beside `crc32` over the same bytes; and `list` and
-`recover` of such a volume, beside SQLite's first query and checkpoint over a WAL of as many bytes;
-interleaved, best of five, at two sizes that show the growth.
+"""Scans of a ring full of entries on a device in memory, beside `crc32` over the same bytes; appends of as many
+as fill one, beside the device's writes alone; and `list` and `recover` of such a volume, beside SQLite's
+first query and checkpoint over a WAL of as many bytes; interleaved, best of five, at two sizes that show the
+growth.
 
 An entry has three payloads, as that of a small add: superblock, bitmap, and one of 128 blocks of the
 node map. A scan is a call, timed in a program of its own; 0.8 of the rate of `crc32` is wanted, since
@@ -162,7 +163,12 @@ def main():
         for journal in SIZES:
             with tempfile.TemporaryDirectory() as name:
                 measure_size(pathlib.Path(name), program, scans, journal, tables)
+        appends = proved_program("append", ["bv_ring", "bv_device", "bv_layout"], pathlib.Path(kept) / "append")
+        entries, appended, written = map(int, timed([appends], "/dev/null")[1].split())
     print(f"entries of five blocks, best of {RUNS}")
+    table(["appends", "microseconds each", "the device's writes alone"], [
+        [str(entries), f"{appended / entries:.2f}", f"{written / entries:.2f}"],
+    ])
     table(["blocks", "scan MB/s", "crc32 MB/s", "scan's rate to it"], tables[0])
     for name, rows in zip(["by the clock", "by processor time"], tables[1:]):
         print(f"{name}, milliseconds")

@@ -1,10 +1,10 @@
 """Surveys of the metadata of volumes with as many blobs as fit, in both versions, at two sizes that show
-the growth, and plans of an entry; and `list` of these volumes beside SQLite's check and list of a table with as many rows,
+the growth, and plans of two entries; and `list` of these volumes beside SQLite's check and list of a table with as many rows,
 interleaved, best of nine.
 
 A survey is a call, timed in a program of its own. Wanted are 60 ms for the largest metadata of version 1,
-and 150 ms for the largest of version 2. So is the plan of an entry that purges one blob, for which a
-millisecond is wanted. `list` reads the metadata, surveys it, and prints a line for
+and 150 ms for the largest of version 2. So are the plan of an entry that purges one blob, and that of one
+that purges it and publishes it again: a millisecond is wanted for a publication. `list` reads the metadata, surveys it, and prints a line for
 each blob. It and SQLite are whole processes, by the clock and by processor time, on which other work of
 the machine has no part. The volumes are sparse files: `list` reads no data block. A ratio is SQLite's
 processor time to ours.
@@ -77,12 +77,13 @@ def survey_micros(program, path, blobs):
 
 
 def plan_micros(program, path):
-    """The fastest plan of a purge, whose entry names block 0 and a block of the bitmap and of the nodes."""
+    """The fastest plan of a purge, whose entry names block 0 and a block of the bitmap and of the nodes; and
+    that of the purge and a publication that puts back what stood in these, so that block 0 alone is named."""
     _, text = timed([program], path)
-    micros, blocks = map(int, text.split())
-    if blocks != 3:
-        raise SystemExit(f"an entry has {blocks} blocks")
-    return micros
+    purge, blocks, both, first = map(int, text.split())
+    if (blocks, first) != (3, 1):
+        raise SystemExit(f"entries have {blocks} and {first} blocks")
+    return purge, both
 
 
 def times_of(commands):
@@ -114,7 +115,7 @@ def row_of(folder, program, calls, version, blocks, nodes, data_blocks):
     ratio = [f"{processor['other'] / processor['ours']:.2f}"] if tool else ["-", "-", "-"]
     return [
         str(version), str(nodes), str(blocks), f"{survey_micros(calls[0], meta, nodes) / 1000:.0f}",
-        f"{plan_micros(calls[1], meta) / 1000:.3f}", *times, *ratio, most_memory(commands["ours"], "/dev/null"),
+        *(f"{micros / 1000:.3f}" for micros in plan_micros(calls[1], meta)), *times, *ratio, most_memory(commands["ours"], "/dev/null"),
     ]
 
 
@@ -124,7 +125,7 @@ def main():
     with tempfile.TemporaryDirectory() as kept:
         kept = pathlib.Path(kept)
         below = ["bv_txn", "bv_layout", "bv_bytes", "spec_record"]
-        more = ["bv_node", "spec_meta", "spec_image"]
+        more = ["bv_node", "spec_reuse", "spec_meta", "spec_image"]
         calls = [
             proved_program("survey", below, kept / "survey"),
             proved_program("plan", below + more, kept / "plan"),
@@ -134,7 +135,7 @@ def main():
                 rows.append(row_of(pathlib.Path(name), program, calls, *size))
     print(f"milliseconds, best of {RUNS}")
     table([
-        "version", "blobs", "data blocks", "survey", "plan", "list", "processor", "SQLite", "processor",
+        "version", "blobs", "data blocks", "survey", "purge", "and publish", "list", "processor", "SQLite", "processor",
         "ratio", "list MiB",
     ], rows)
 
