@@ -6,7 +6,7 @@ ghost use Rattle.spec_record.specs.Tests.{IsBetween};
 use bv_device::{Block, Device, MemDevice};
 use bv_entry::{Entry, Info, write_entry, write_info};
 use bv_layout::Geometry;
-use bv_replay::{Replay, scan};
+use bv_replay::{Replay, recover, scan};
 use std::alloc::{AllocError, Global};
 use std::process::Abort;
 use std::test::Fail;
@@ -25,9 +25,9 @@ pub const TOTAL: u64 = 83;
 /// The device block of slot 0.
 const RING: usize = 4;
 
-/// What a stop may leave of the events that aren't synced: none of them, all, or every sector but
-/// the first.
-pub const CHOICES: [&[u8]; 3] = [&[], &[255], &[0, 255]];
+/// What a stop may leave of the events that aren't synced: none of them, said in two ways, all, or
+/// every sector but the first.
+pub const CHOICES: [&[u8]; 4] = [&[], &[0], &[255], &[0, 255]];
 
 /// Entries, the next slot and the next number.
 pub type State = (usize, u64, u64);
@@ -72,4 +72,12 @@ pub fn replay_of<R: Abort>(rt: &R, alloc: Global, dev: &mut MemDevice) -> Result
 pub fn state_of<R: Abort>(rt: &R, alloc: Global, dev: &mut MemDevice) -> Result<State, Fail> {
     let replay = replay_of(rt, alloc, dev)?;
     Ok((replay.entries.len(), replay.next_slot, replay.next_number))
+}
+
+/// Recovers what is there.
+pub fn recovered<R: Abort>(rt: &R, alloc: Global, dev: &mut MemDevice) -> Result<(), Fail> {
+    assert!(rt; dev.blocks() == TOTAL);
+    let replay = scan(alloc, dev, GEOMETRY).ok().ok_or("a replay")?;
+    assert_eq!(rt; recover(dev, GEOMETRY, &replay), Ok(()));
+    Ok(())
 }

@@ -3,9 +3,13 @@
 #![tactic(auto)]
 
 #[cfg(test)]
+mod bad_input;
+#[cfg(test)]
 mod base;
 #[cfg(test)]
 mod faults;
+#[cfg(test)]
+mod rows;
 #[cfg(test)]
 mod scans;
 #[cfg(test)]

@@ -5,10 +5,9 @@ ghost use Rattle.spec_record.specs.Geometry.{total_blocks, meta_blocks};
 ghost use Rattle.spec_record.specs.Tests.{IsBetween};
 
 use crate::base::{
-    CHOICES, GEOMETRY, State, TOTAL, blocks_with, entry_of, put, replay_of, state_of,
+    CHOICES, GEOMETRY, State, TOTAL, blocks_with, entry_of, put, recovered, replay_of, state_of,
 };
 use bv_device::{Device, MemDevice};
-use bv_replay::{recover, scan};
 use bv_ring::Ring;
 use std::alloc::Global;
 use std::process::Abort;
@@ -79,13 +78,13 @@ fn a_stop_leaves_the_old_entries_or_the_new(rt: HostRuntime) -> Result<(), Fail>
     append(&rt, alloc, &mut dev, &mut ring, 7)?;
     assert_eq!(rt;
         count(&rt, alloc, &dev, (0, 4), (0, 14, 7), (1, 2, 8))?,
-        (11, 1)
+        (15, 1)
     );
     assert!(rt; dev.sync().is_ok());
     append(&rt, alloc, &mut dev, &mut ring, 8)?;
     assert_eq!(rt;
         count(&rt, alloc, &dev, (4, 8), (1, 2, 8), (2, 5, 9))?,
-        (11, 1)
+        (15, 1)
     );
     assert_eq!(rt; (ring.room(), ring.next(), dev.calls()), (9, 9, 7));
     // A sync, three blocks in place, a sync, the info block, a sync: the entries stand until the
@@ -93,17 +92,9 @@ fn a_stop_leaves_the_old_entries_or_the_new(rt: HostRuntime) -> Result<(), Fail>
     checkpoint(&rt, &mut dev, &mut ring)?;
     assert_eq!(rt;
         count(&rt, alloc, &dev, (8, 15), (2, 5, 9), (0, 5, 9))?,
-        (17, 4)
+        (23, 5)
     );
     assert_eq!(rt; (ring.room(), ring.next(), dev.calls()), (15, 9, 14));
-    Ok(())
-}
-
-/// Recovers what is there.
-fn recovered<R: Abort>(rt: &R, alloc: Global, dev: &mut MemDevice) -> Result<(), Fail> {
-    assert!(rt; dev.blocks() == TOTAL);
-    let replay = scan(alloc, dev, GEOMETRY).ok().ok_or("a replay")?;
-    assert_eq!(rt; recover(dev, GEOMETRY, &replay), Ok(()));
     Ok(())
 }
 
@@ -123,6 +114,19 @@ fn is_settled<R: Abort>(rt: &R, alloc: Global, dev: &mut MemDevice) -> Result<()
     assert_eq!(rt; (replay.next_slot, replay.next_number), (6, 9));
     has(rt, dev, 0, 2);
     has(rt, dev, 1, 0);
+    Ok(())
+}
+
+/// Recovers what each stop of a device leaves.
+fn recovers_each_stop<R: Abort>(rt: &R, alloc: Global, dev: &MemDevice) -> Result<(), Fail> {
+    for stop in 0..dev.trace_len() {
+        for choice in CHOICES {
+            assert!(rt; stop <= dev.trace_len());
+            let mut again = dev.stop_after(alloc, stop, choice)?;
+            recovered(rt, alloc, &mut again)?;
+            is_settled(rt, alloc, &mut again)?;
+        }
+    }
     Ok(())
 }
 
@@ -146,6 +150,8 @@ fn a_recovery_that_stops_anywhere_ends_the_same_when_it_runs_again(
             let mut again = dev.stop_after(alloc, stop, choice)?;
             recovered(&rt, alloc, &mut again)?;
             is_settled(&rt, alloc, &mut again)?;
+            // The second recovery may be stopped too.
+            recovers_each_stop(&rt, alloc, &again)?;
         }
     }
     Ok(())
