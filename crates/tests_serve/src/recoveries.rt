@@ -74,11 +74,15 @@ fn an_entry_is_replayed_once_and_the_version_becomes_2(rt: HostRuntime) -> Resul
     Ok(())
 }
 
-/// Each stop of what was done to a device leaves the blob, where it takes what was written last.
+/// Each stop of what was done to a device leaves the blob, and so does the recovery behind it.
 fn stops_keep_the_blob<R: Abort>(rt: &R, alloc: Global, dev: &MemDevice) -> Result<(), Fail> {
     for stop in 0..=dev.trace_len() {
-        if stop <= dev.trace_len() {
-            let left = dev.stop_after(alloc, stop, &[255])?;
+        for choice in CHOICES {
+            assert!(rt; stop <= dev.trace_len());
+            let left = dev.stop_after(alloc, stop, choice)?;
+            let left = prints(rt, alloc, left, "list", Status::Ok, ROOT)?;
+            let (ended, _, left) = done(alloc, left, "recover")?;
+            assert_eq!(rt; ended, Status::Ok, "{stop}");
             let _ = prints(rt, alloc, left, "list", Status::Ok, ROOT)?;
         }
     }
@@ -120,9 +124,7 @@ fn a_stop_leaves_the_blob_and_so_does_one_of_the_next_try(rt: HostRuntime) -> Re
                 let (newest, again) = goes_on(&rt, alloc, left, word)?;
                 new = new || newest;
                 old = old || !newest;
-                if stop == events / 2 {
-                    stops_keep_the_blob(&rt, alloc, &again)?;
-                }
+                stops_keep_the_blob(&rt, alloc, &again)?;
             }
         }
         assert_eq!(rt; (old, new), (true, word == "upgrade"), "{word}");
@@ -133,9 +135,15 @@ fn a_stop_leaves_the_blob_and_so_does_one_of_the_next_try(rt: HostRuntime) -> Re
 #[test]
 fn a_call_that_fails_is_a_device_fault_and_the_blob_stays(rt: HostRuntime) -> Result<(), Fail> {
     let alloc = rt.alloc();
-    // Superblock, info and ring, then the metadata: whichever read fails first is told.
-    for word in ["list", "check", "recover", "upgrade"] {
-        for nth in 1..20 {
+    // Superblock, info and ring, then the metadata: whichever read fails first is told. A check reads
+    // the blob's data behind these.
+    for (word, reads) in [
+        ("list", 19),
+        ("check", 20),
+        ("recover", 19),
+        ("upgrade", 19),
+    ] {
+        for nth in 1..=reads {
             let mut dev = device_of(alloc, Held::OneBlob)?;
             dev.fail(alloc, CallKind::Read, nth)?;
             let dev = prints(&rt, alloc, dev, word, Status::Device, FAULT)?;
