@@ -1,6 +1,6 @@
 //! Runs of the top call on devices in memory.
 
-use bv_device::MemDevice;
+use bv_device::{Block, Device};
 use bv_io::{MemSink, MemSource, NoGate};
 use bv_run::{Status, run};
 use std::alloc::{AllocError, Global};
@@ -37,46 +37,85 @@ fn words_of(alloc: Global, line: &str) -> Result<Vec<String>, AllocError> {
 }
 
 /// Runs words over this device and an input: what is printed, the status, and the device.
-fn done<R: Threads + Wait + Sync>(
+pub fn shown<R: Threads + Wait + Sync, D: Device + Drop + Send>(
     rt: &R,
     alloc: Global,
-    dev: MemDevice,
+    dev: D,
     words: (&str, &str),
-) -> Result<(Vec<u8>, Status, MemDevice), AllocError> {
+) -> Result<(Vec<u8>, Status, D), AllocError> {
     let held = Vec::from_slice(alloc, words.1.as_bytes())?;
     let mut source = MemSource::new(held, Vec::new(alloc));
     let mut out = MemSink::new(Vec::new(alloc), alloc);
     let line = words_of(alloc, words.0)?;
     let (ended, dev) = run(rt, alloc, &line, dev, &mut source, &mut out, &NoGate);
-    Ok((without_calls(alloc, out.bytes())?, ended, dev))
+    Ok((Vec::from_slice(alloc, out.bytes())?, ended, dev))
+}
+
+/// The same, without the numbers of calls.
+pub fn told<R: Threads + Wait + Sync, D: Device + Drop + Send>(
+    rt: &R,
+    alloc: Global,
+    dev: D,
+    words: (&str, &str),
+) -> Result<(Vec<u8>, Status, D), AllocError> {
+    let (text, ended, dev) = shown(rt, alloc, dev, words)?;
+    Ok((without_calls(alloc, &text)?, ended, dev))
 }
 
 /// Words and an input print this text, at this status; the device comes back.
-pub fn prints<R: Abort + Threads + Wait + Sync>(
+pub fn prints<R: Abort + Threads + Wait + Sync, D: Device + Drop + Send>(
     rt: &R,
     alloc: Global,
-    dev: MemDevice,
+    dev: D,
     words: (&str, &str),
     status: Status,
     text: &str,
-) -> Result<MemDevice, Fail> {
-    let (shown, ended, dev) = done(rt, alloc, dev, words)?;
+) -> Result<D, Fail> {
+    let (shown, ended, dev) = told(rt, alloc, dev, words)?;
     assert_eq!(rt; shown.as_slice(), text.as_bytes(), "{}", words.1);
     assert_eq!(rt; ended, status, "{}", words.1);
     Ok(dev)
 }
 
 /// They print a text that begins so.
-pub fn begins<R: Abort + Threads + Wait + Sync>(
+pub fn begins<R: Abort + Threads + Wait + Sync, D: Device + Drop + Send>(
     rt: &R,
     alloc: Global,
-    dev: MemDevice,
+    dev: D,
     words: (&str, &str),
     status: Status,
     text: &str,
-) -> Result<MemDevice, Fail> {
-    let (shown, ended, dev) = done(rt, alloc, dev, words)?;
+) -> Result<D, Fail> {
+    let (shown, ended, dev) = told(rt, alloc, dev, words)?;
     assert!(rt; shown.starts_with(text.as_bytes()), "{}", words.1);
     assert_eq!(rt; ended, status, "{}", words.1);
     Ok(dev)
+}
+
+/// Block, offset and byte.
+pub type Change = (usize, usize, u8);
+
+/// The blocks of a device, so many, with these bytes in place of what they have there.
+pub fn changed<D: Device>(
+    alloc: Global,
+    dev: &mut D,
+    count: u64,
+    changes: &[Change],
+) -> Result<Vec<Block>, Fail> {
+    let mut blocks = Vec::new(alloc);
+    for at in 0..count {
+        let mut block = [0; 8192];
+        if at >= dev.blocks() || dev.read(at, &mut block).is_err() {
+            return Err(Fail::from("a read"));
+        }
+        blocks.push(block)?;
+    }
+    for (at, offset, byte) in changes {
+        if let Some(block) = blocks.get_mut(*at) {
+            if let Some(place) = block.get_mut(*offset) {
+                *place = *byte;
+            }
+        }
+    }
+    Ok(blocks)
 }
