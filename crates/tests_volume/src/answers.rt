@@ -7,10 +7,11 @@ use std::process::Abort;
 /// how many there are.
 pub type Answer = (&'static str, u64);
 
-fn answer_of(answered: &LineResult) -> Answer {
+pub fn answer_of(answered: &LineResult) -> Answer {
     match answered {
         LineResult::Published => ("published", 0),
         LineResult::Exists => ("exists", 0),
+        LineResult::Leaving { handles } => ("leaving", *handles),
         LineResult::NoSpace { need, .. } => ("no-space", *need),
         LineResult::Opened { size } => ("opened", *size),
         LineResult::NotFound => ("not-found", 0),

@@ -8,6 +8,7 @@ use bv_device::MemDevice;
 use bv_format::format;
 use bv_io::Gate;
 use bv_journaled::JournaledStore;
+use bv_model::History;
 use bv_mount::inspect;
 use bv_mounted::mount;
 use bv_script::{Script, parse};
@@ -29,15 +30,33 @@ const SMALL: Geometry = Geometry {
     version: 1,
 };
 
-/// A device with a volume of this version that was just made.
-pub fn made<R: Abort>(rt: &R, alloc: Global, version: u32) -> Result<MemDevice, Fail> {
-    assert!(rt; 1 <= version && version <= 2);
-    let mut dev = MemDevice::new(alloc, 83)?;
-    assert!(rt; format(&mut dev, Geometry { version, ..SMALL }).is_ok());
+/// A device with so many blocks and a volume that was just made.
+pub fn made_with<R: Abort>(
+    rt: &R,
+    alloc: Global,
+    total: u64,
+    geometry: Geometry,
+) -> Result<MemDevice, Fail> {
+    assert!(rt; 1 <= geometry.version && geometry.version <= 2);
+    let mut dev = MemDevice::new(alloc, total)?;
+    assert!(rt; format(&mut dev, geometry).is_ok());
     Ok(dev)
 }
 
-/// Runs a script on a volume that was just mounted past this gate: how each session ended, and the device.
+/// A device with a small volume of this version that was just made.
+pub fn made<R: Abort>(rt: &R, alloc: Global, version: u32) -> Result<MemDevice, Fail> {
+    made_with(rt, alloc, 83, Geometry { version, ..SMALL })
+}
+
+/// What a script left: its history, how each session ended, and the device.
+#[derive(Drop)]
+pub struct Left {
+    pub history: History,
+    pub ends: Vec<SessionEnd>,
+    pub dev: MemDevice,
+}
+
+/// Runs a script on a volume that was just mounted past this gate.
 fn done<R: Abort + Threads + Wait + Sync, G: Gate + Sync>(
     rt: &R,
     alloc: Global,
@@ -45,30 +64,34 @@ fn done<R: Abort + Threads + Wait + Sync, G: Gate + Sync>(
     claims: &Claims,
     script: &Script,
     gate: &G,
-) -> (Vec<SessionEnd>, MemDevice)
+) -> Left
     requires fresh { volume.history.events ≡ [] }
     requires disk { AreOfOneDisk volume.store.began volume.store.told }
     requires claims { volume.space.claims ≡ claims.now }
     requires version { (volume.history.version ≡ 1) ⊎ (volume.history.version ≡ 2) }
 {
     let Ran {
-        history: _,
+        history,
         ends,
         whole,
         store,
     } = run_sessions(rt, alloc, volume, claims, script.lines(), gate);
     assert!(rt; whole);
-    (ends, store.into_device())
+    Left {
+        history,
+        ends,
+        dev: store.into_device(),
+    }
 }
 
 /// Mounts what the device holds and runs a script on it past this gate, up to the unmount.
-pub fn runs<R: Abort + Threads + Wait + Sync, G: Gate + Sync>(
+pub fn leaves<R: Abort + Threads + Wait + Sync, G: Gate + Sync>(
     rt: &R,
     alloc: Global,
     mut dev: MemDevice,
     bytes: &[u8],
     gate: &G,
-) -> Result<(Vec<SessionEnd>, MemDevice), Fail> {
+) -> Result<Left, Fail> {
     let Ok(script) = parse(alloc, bytes) else {
         return Err(Fail::from("a script"));
     };
@@ -83,4 +106,20 @@ pub fn runs<R: Abort + Threads + Wait + Sync, G: Gate + Sync>(
         return Err(Fail::from("a mount"));
     };
     Ok(done(rt, alloc, volume, &claims, &script, gate))
+}
+
+/// The same, without the history.
+pub fn runs<R: Abort + Threads + Wait + Sync, G: Gate + Sync>(
+    rt: &R,
+    alloc: Global,
+    dev: MemDevice,
+    bytes: &[u8],
+    gate: &G,
+) -> Result<(Vec<SessionEnd>, MemDevice), Fail> {
+    let Left {
+        history: _,
+        ends,
+        dev,
+    } = leaves(rt, alloc, dev, bytes, gate)?;
+    Ok((ends, dev))
 }

@@ -117,3 +117,41 @@ fn what_one_script_leaves_the_next_one_finds(rt: HostRuntime) -> Result<(), Fail
     }
     Ok(())
 }
+
+/// A blob that two slots hold is unlinked, and added again once it is gone.
+const HELD_TWICE: &[u8] = b"0 add hex:6869
+0 open 0 hex:6869
+0 open 1 hex:6869
+0 unlink hex:6869
+0 sync
+0 list
+0 open 2 hex:6869
+0 add hex:6869
+0 close 0
+0 close 1
+0 sync
+0 add hex:6869
+";
+
+#[test]
+fn a_blob_that_slots_hold_leaves_once_all_of_them_are_closed(rt: HostRuntime) -> Result<(), Fail> {
+    let alloc = rt.alloc();
+    let dev = made(&rt, alloc, 1)?;
+    let (ends, _) = runs(&rt, alloc, dev, HELD_TWICE, &NoGate)?;
+    let wanted: [Answer; 12] = [
+        ("published", 0),
+        ("opened", 2),
+        ("opened", 2),
+        ("unlinked", 0),
+        ("synced", 0),
+        ("list", 0),
+        ("not-found", 0),
+        ("leaving", 2),
+        ("closed", 0),
+        ("closed", 0),
+        ("synced", 0),
+        ("published", 0),
+    ];
+    have_answered(&rt, &ends, &wanted);
+    Ok(())
+}

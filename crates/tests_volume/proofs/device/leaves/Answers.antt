@@ -1,5 +1,5 @@
 use Rattle.bv_mounted.proofs.CallerLemmas.{inspect_gives}
-use Rattle.tests_volume.proofs.device.runs.Goals as goal
+use Rattle.tests_volume.proofs.device.leaves.Goals as goal
 
 pub mount-requires-clause-gives : goal.mount-requires-clause-gives
 mount-requires-clause-gives g c = inspect_gives c.in-Ok-inspect.inspected _ _ c.in-Ok-inspect.ensures.reads
