@@ -1,0 +1,2 @@
+-- Lemmas on a mount after a stop.
+pub mod RemountLemmas

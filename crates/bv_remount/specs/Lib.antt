@@ -1,0 +1,2 @@
+-- What a mount finds after a stop.
+pub mod Remounts
