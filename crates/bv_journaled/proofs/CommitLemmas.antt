@@ -203,8 +203,8 @@ module _ (s : Standing) (is : IsStanding s) (p : Prepared) (prep : IsPrepared s.
     slots_are : ring_slots (with_room s.cursor n).geometry ≡ ring_slots g
     slots_are = ap ring_slots counts
 
-    next : IsNext g roomy.info roomy.entries meta p.entry
-    next = record {
+    pub entry_next : IsNext g roomy.info roomy.entries meta p.entry
+    entry_next = record {
       lawful = lawful_entry;
       number_is = prep.plans.number_is ∙ sym (same_number (leb n s.cursor.room)) ∙ roomy.stands.number;
       fits = omega (arith, roomy.stands.room, slots_are, enough (leb n s.cursor.room) refl, long);
@@ -223,8 +223,8 @@ module _ (s : Standing) (is : IsStanding s) (p : Prepared) (prep : IsPrepared s.
         subst (λ (l : List MapChange). KeepsMap g d2 (replayed p.entry.targets meta) (changed b l)) log
         (changed_map g d2 meta (replayed p.entry.targets meta) b prep.changes roomy.keeps.durable prep.fit says published_kept)
 
-    plan_is : ring_writes g (slot_behind g roomy.info roomy.entries) (entry_blocks p.entry) ≡ blocks_plan
-    plan_is =
+    pub entry_in_ring : ring_writes g (slot_behind g roomy.info roomy.entries) (entry_blocks p.entry) ≡ blocks_plan
+    entry_in_ring =
         let counts_are : g ≡ s.cursor.geometry = sym is.same in
         let slot_was : slot_behind g roomy.info roomy.entries ≡ s.cursor.slot = sym slot_is in
         let blocks_are : entry_blocks p.entry ≡ p.blocks.items = sym prep.blocks in
@@ -243,9 +243,9 @@ module _ (s : Standing) (is : IsStanding s) (p : Prepared) (prep : IsPrepared s.
         (Stops-append d1 room blocks_plan P
         (Stops-weaker d1 room (HoldsEither b b) P (λ j h. inl (elim h [ inl x ↦ inr x | inr x ↦ inr x ])) roomy.stops)
         (Stops-weaker d2 blocks_plan (HoldsEither b made) P (λ j h. elim h [ inl x ↦ inl (inr x) | inr x ↦ inr x ])
-        (subst (λ (q : List Event). Stops d2 q (HoldsEither b made)) plan_is (append_stops g roomy.info roomy.entries meta d2 b made p.entry roomy.keeps next makes))))
+        (subst (λ (q : List Event). Stops d2 q (HoldsEither b made)) entry_in_ring (append_stops g roomy.info roomy.entries meta d2 b made p.entry roomy.keeps entry_next makes))))
 
     pub entry_done : Keeps g roomy.info roomy.entries (Some p.entry) meta (disk_with d plan) b made
     entry_done =
         subst (λ (x : Disk). Keeps g roomy.info roomy.entries (Some p.entry) meta x b made) joined
-        (subst (λ (q : List Event). Keeps g roomy.info roomy.entries (Some p.entry) meta (disk_with d2 q) b made) plan_is (append_done g roomy.info roomy.entries meta d2 b made p.entry roomy.keeps next makes))
+        (subst (λ (q : List Event). Keeps g roomy.info roomy.entries (Some p.entry) meta (disk_with d2 q) b made) entry_in_ring (append_done g roomy.info roomy.entries meta d2 b made p.entry roomy.keeps entry_next makes))

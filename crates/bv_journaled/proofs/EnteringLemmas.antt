@@ -1,6 +1,6 @@
 -- The parts of an entry's call, joined.
 use Rattle.std.proofs.Common.{◌≡◌, ◌≤◌, ℕ, List, [], ◌++◌, length, Bool, true, false, cond, leb, Option, Some, None, Result, Ok, Err, refl, ap, sym, ◌∙◌, subst}
-use Rattle.std.specs.Prelude.{Contains, IfSome, IsErrAnd, OnErr}
+use Rattle.std.specs.Prelude.{Contains, IfSome, IsErrAnd, OnErr, option_map}
 use Rattle.spec_disk.specs.declared.event.Event.{Event}
 use Rattle.spec_disk.specs.Disk.{Blocks}
 use Rattle.spec_record.specs.declared.geometry.Geometry.{Geometry}
@@ -9,17 +9,22 @@ use Rattle.spec_image.specs.WellFormed.{is_well_formed}
 use Rattle.spec_meta.specs.Blocks.{metadata_at, patched}
 use Rattle.spec_meta.proofs.ChangeLemmas.{changes_keep}
 use Rattle.bv_device.specs.declared.failed.Failed.{Failed}
-use Rattle.bv_device.specs.Plan.{a_sync}
+use Rattle.bv_device.proofs.PlanLemmas.{IsPlan-append}
+use Rattle.bv_device.specs.Plan.{IsPlan, a_sync}
+use Rattle.bv_device.specs.Reads.{ReadsRight}
 use Rattle.bv_device.specs.Seen.{Seen, Performs}
 use Rattle.bv_device.proofs.SeenLemmas.{Performs-append, Performs-stopped}
-use Rattle.bv_journal.specs.Plans.{ring_writes}
-use Rattle.bv_ring.specs.Cursor.{Cursor, emptied}
+use Rattle.bv_journal.specs.Plans.{checkpoint_plan, ring_writes}
+use Rattle.bv_ring.specs.Cursor.{Cursor, emptied, info_at_cursor}
 use Rattle.bv_journaled.specs.declared.prepared.Prepared.{Prepared}
 use Rattle.bv_txn.specs.declared.change.Change.{Change}
 use Rattle.bv_txn.specs.Metas.{MetaBlocks}
-use Rattle.bv_journaled.specs.Standing.{Standing, freed_by, IsStanding, IsPrepared}
+use Rattle.bv_journaled.specs.Standing.{Standing, stored_of, placed_at, freed_by, IsStanding, IsPrepared}
 use Rattle.bv_journaled.specs.Entering.{room_plan, with_room, entry_plan, StopsShort}
 use Rattle.bv_journaled.proofs.PatchLemmas.{length-patched}
+use Rattle.bv_journaled.specs.Since.{since}
+use Rattle.bv_journaled.proofs.RightLemmas.{long_enough, right_all, right_synced}
+use Rattle.bv_journaled.proofs.StopLemmas.{ring_plan, whole_checkpoint}
 
 abbrev Answer : Type 0
 Answer = Result Unit Failed
@@ -73,8 +78,8 @@ prepared_of s o p is same some = subst (λ (x : Option Prepared). IfSome x (IsPr
 -- the changes of an entry in memory
 pub entered : (s : Standing) (meta : MetaBlocks) (targets : List (ℕ × List ℕ)) (gone : List Change) → IsStanding s → s.planned ≡ None
     → is_well_formed (metadata_at s.meta.geometry (patched targets s.meta.blocks)) ≡ true → meta.geometry ≡ s.meta.geometry → meta.blocks ≡ patched targets s.meta.blocks
-    → IsStanding (record s { meta = meta; gone = gone })
-entered s meta targets gone is none formed geometry blocks = record {
+    → IfSome (stored_of s).told ReadsRight → IsStanding (record s { meta = meta; gone = gone })
+entered s meta targets gone is none formed geometry blocks right = record {
   lawful = subst IsGeometry (sym geometry) is.lawful;
   cursor = is.cursor;
   same = is.same ∙ sym geometry;
@@ -84,6 +89,7 @@ entered s meta targets gone is none formed geometry blocks = record {
   opened = is.opened;
   told = is.told;
   prepared = subst (λ (o : Option Prepared). IfSome o (IsPrepared meta.geometry meta.blocks s.cursor.number)) (sym none) tt;
+  right = right_all meta.geometry (placed_at meta.geometry meta.blocks) (stored_of s).told right;
 }
 
 -- a failure leaves what it left of the store without its plan
@@ -94,3 +100,17 @@ stops_from (Err x) s t new e h = record {
   meta = h.meta ∙ ap (λ (y : Standing). y.meta) e;
   gone = λ b c. subst (λ (y : Standing). Contains (freed_by y.gone) b) e (h.gone b c);
 }
+
+-- after an entry's call that was Ok every block reads right: it began with a sync
+pub entry_right : (t w : Standing) (blocks : Blocks) → IsStanding t → w.opened ≡ t.opened → Did (Ok tt) (entry_plan t.meta.geometry t.cursor t.meta.blocks blocks) t.device w.device → IfSome (stored_of w).told ReadsRight
+entry_right t w blocks is opened did =
+    let room : List Event = room_plan t.meta.geometry t.cursor t.meta.blocks (length blocks) in
+    let ring : List Event = ring_writes t.cursor.geometry t.cursor.slot blocks in
+    let ok : Answer = Ok tt in
+    subst (λ (n : ℕ). IfSome (option_map (since n) w.device.told) ReadsRight) (sym opened)
+    (right_synced ok tt (room ++ ring) t.opened t.device.told w.device.told (long_enough t.device.told t.opened t.device.calls_made is.opened is.told)
+    (IsPlan-append room ring (planned (leb (length blocks) t.cursor.room)) (ring_plan t.cursor.geometry t.cursor.slot blocks)) did.plan refl)
+  where
+    planned : (b : Bool) → IsPlan (cond b [] (checkpoint_plan t.meta.geometry t.meta.blocks (info_at_cursor t.cursor)))
+    planned true = tt
+    planned false = whole_checkpoint t.meta.geometry t.meta.blocks (info_at_cursor t.cursor)

@@ -1,10 +1,12 @@
 -- Lemmas on what a disk keeps.
 pub mod QuietLemmas
 pub mod StopLemmas
+pub mod StoppedLemmas
 pub mod CallLemmas
 pub mod EntryLemmas
 pub mod RunLemmas
 pub mod RowLemmas
+pub mod RightLemmas
 pub mod PlacedLemmas
 pub mod CallRows
 pub mod ReadLemmas
@@ -12,6 +14,7 @@ pub mod PatchLemmas
 pub mod CommitLemmas
 pub mod EnteringLemmas
 pub mod CommitRows
+pub mod FailedLemmas
 pub mod LookupLemmas
 pub mod OpeningLemmas
 pub mod PlaceLemmas

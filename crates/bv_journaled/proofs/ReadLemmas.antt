@@ -1,8 +1,9 @@
 -- What a read of the device is to the store.
-use Rattle.std.proofs.Common.{◌≡◌, ℕ, ◌-◌, ◌<◌, ◌≤◌, length, List, [], ◌∷◌, ◌++◌, take, drop, Bool, true, false, cond, Option, Some, None, refl, ap, sym, ◌∙◌, inl, inr, arith}
+use Rattle.std.proofs.Common.{◌≡◌, ℕ, ◌-◌, ◌≤◌, length, List, [], ◌∷◌, ◌++◌, take, drop, Bool, true, false, cond, Option, Some, None, refl, ap, sym, ◌∙◌, inl, inr, arith}
 use Rattle.std.proofs.lemmas.List.{take-append-drop}
 use Rattle.std.proofs.lemmas.Bool.Decides.{eqb_tells}
-use Rattle.std.specs.Prelude.{option_map, IfSome, IsTrue}
+use Rattle.std.specs.Prelude.{option_map, Contains, IfSome, IsTrue}
+use Rattle.spec_tree.specs.declared.Digest.{Digest}
 use Rattle.spec_disk.specs.declared.event.Event.{Event}
 use Rattle.spec_disk.specs.declared.event.Event.TheVariants.{Write}
 use Rattle.spec_disk.specs.Disk.{Blocks, block, now_after, reads_right, reads_right_from, unsynced_part}
@@ -17,9 +18,9 @@ use Rattle.spec_record.specs.Geometry.{block_at, total_blocks}
 use Rattle.spec_rest.specs.Rest.{Map}
 use Rattle.bv_device.specs.Told.{Disk, now_of}
 use Rattle.bv_device.specs.Seen.{Seen}
-use Rattle.bv_store.specs.Stored.{HasWholeBlocks}
+use Rattle.bv_store.specs.Stored.{HasWholeBlocks, blocks_in}
 use Rattle.bv_journaled.specs.Since.{began_at, since, calls_since}
-use Rattle.bv_journaled.specs.Standing.{Standing, stored_of, Both}
+use Rattle.bv_journaled.specs.Standing.{PlacedRight, Standing, stored_of, Both}
 use Rattle.bv_journaled.proofs.RowLemmas.{told_rests, rests_told}
 
 -- a block whose last write failed has a write that is pending
@@ -61,6 +62,13 @@ ReadsBlock told began x into = IfSome told (λ d. IfSome began (λ b. IsSettled 
 pub read_since : (n : ℕ) (o : Option Disk) (x : ℕ) (into : List ℕ) → IfSome o (λ d. IsTrue (reads_right d.trace x) → into ≡ block (now_of d) x) → ReadsBlock (option_map (since n) o) (option_map (began_at n) o) x into
 read_since n None x into h = tt
 read_since n (Some d) x into h = λ settled right. h (since_right n d x settled right) ∙ ap (λ (b : Blocks). block b x) (since_now n d)
+
+-- a block of a blob that reads right since the mount began
+pub read_blob : (n : ℕ) (o : Option Disk) (g : Geometry) (placed : List (Digest × List ℕ)) (at : ℕ) (into : List ℕ) → IfSome (option_map (since n) o) (PlacedRight g placed) → IfSome o (λ d. IsTrue (reads_right d.trace (block_at g at)) → into ≡ block (now_of d) (block_at g at))
+    → IfSome (option_map (since n) o) (λ d. IfSome (option_map (began_at n) o) (λ b. IsSettled b.trace) → Contains (blocks_in placed) at → into ≡ block (now_of d) (block_at g at))
+read_blob n None g placed at into right h = tt
+read_blob n (Some d) g placed at into right h = λ settled of.
+    h (since_right n d (block_at g at) settled (right at of)) ∙ ap (λ (b : Blocks). block b (block_at g at)) (since_now n d)
 
 pub read_stored : (s : Standing) (dev : Seen) → dev.told ≡ s.device.told → dev.calls_made ≡ s.device.calls_made → stored_of (record s { device = dev }) ≡ record (stored_of s) { faults = dev.fault_count }
 read_stored s dev told calls = λ i. record (stored_of s) {

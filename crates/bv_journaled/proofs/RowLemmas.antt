@@ -30,7 +30,7 @@ since_with n d p le =
 began_with : (n : ℕ) (d : Disk) (p : List Event) → n ≤ length d.trace → began_at n (disk_with d p) ≡ began_at n d
 began_with n d p le = let front = take-append-le n d.trace p le in λ i. record { base = d.base; trace = front i }
 
-some_since : (n : ℕ) (d : Disk) (p : List Event) (o : Option Disk) → n ≤ length d.trace → o ≡ Some (disk_with d p) → option_map (since n) o ≡ Some (disk_with (since n d) p)
+pub some_since : (n : ℕ) (d : Disk) (p : List Event) (o : Option Disk) → n ≤ length d.trace → o ≡ Some (disk_with d p) → option_map (since n) o ≡ Some (disk_with (since n d) p)
 some_since n d p o le is = ap (option_map (since n)) is ∙ ap (λ (y : Disk). Some y) (since_with n d p le)
 
 cut_since : (n : ℕ) (plan : List Event) (d : Disk) (new : Option Disk) → n ≤ length d.trace → CutShort plan (Some d) new → CutShort plan (Some (since n d)) (option_map (since n) new)

@@ -1,13 +1,13 @@
 -- A store on a device as contracts see it (this project's profile).
-use Rattle.std.specs.Prelude.{◌≡◌, ◌≤◌, ◌+◌, ◌-◌, ◌⊎◌, ℕ, List, [], ◌∷◌, ◌++◌, length, map, true, All, Contains, Option, option_map, IfSome, IsSomeAnd}
+use Rattle.std.specs.Prelude.{◌≡◌, ◌≤◌, ◌+◌, ◌-◌, ◌⊎◌, ℕ, List, [], ◌∷◌, ◌++◌, length, map, true, All, Contains, Option, option_map, IfSome, IsSomeAnd, IsTrue}
 use Rattle.std.specs.BTreeMap.{insert_entry}
 use Rattle.spec_tree.specs.declared.Digest.{Digest}
 use Rattle.spec_tree.specs.Order.{digest_cmp}
-use Rattle.spec_disk.specs.Disk.{Blocks}
+use Rattle.spec_disk.specs.Disk.{Blocks, reads_right}
 use Rattle.spec_record.specs.declared.geometry.Geometry.{Geometry}
 use Rattle.spec_record.specs.declared.info.Info.{Info}
 use Rattle.spec_record.specs.Field.{IsBlock}
-use Rattle.spec_record.specs.Geometry.{IsGeometry, meta_blocks, total_blocks}
+use Rattle.spec_record.specs.Geometry.{IsGeometry, block_at, meta_blocks, total_blocks}
 use Rattle.spec_record.specs.Entry.{Entry}
 use Rattle.spec_record.specs.EntryBlocks.{entry_blocks}
 use Rattle.spec_image.specs.Blobs.{value_of}
@@ -105,6 +105,12 @@ pub record IsRecordOf (r : BlobRecord) (p : Publication) : Type 0 where
   pub blob : value_of r ≡ p.blob
   pub blocks : blocks_of r.extents ≡ p.blocks.items
 
+-- each data block of these blobs is read as the disk has it: its own last write was Ok, or an Ok sync
+-- came after
+abbrev pub PlacedRight : Geometry → List (Digest × List ℕ) → Disk → Type 0
+PlacedRight g placed d =
+    (b : ℕ) → Contains (blocks_in placed) b → IsTrue (reads_right d.trace (block_at g b))
+
 -- a prepared entry makes what was asked for of these metadata blocks
 pub record IsPrepared (g : Geometry) (meta : Blocks) (number : ℕ) (p : Prepared) : Type 0 where
   pub changes : List MetaChange
@@ -130,3 +136,5 @@ pub record IsStanding (s : Standing) : Type 0 where
   pub opened : s.opened ≤ s.device.calls_made
   pub told : IfSome s.device.told (λ d. length d.trace ≡ s.device.calls_made)
   pub prepared : IfSome s.planned (IsPrepared s.meta.geometry s.meta.blocks s.cursor.number)
+  pub right : IfSome (option_map (since s.opened) s.device.told)
+      (PlacedRight s.meta.geometry (placed_at s.meta.geometry s.meta.blocks))

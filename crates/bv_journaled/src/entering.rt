@@ -4,11 +4,12 @@ ghost use Rattle.std.specs.Prelude.{◌≡◌, ◌≤◌, ◌<◌, ◌^◌, [], 
 ghost use Rattle.spec_record.specs.Geometry.{meta_blocks, ring_slots};
 ghost use Rattle.spec_image.specs.WellFormed.{is_well_formed};
 ghost use Rattle.spec_meta.specs.Blocks.{metadata_at, patched};
+ghost use Rattle.bv_device.specs.Reads.{ReadsRight};
 ghost use Rattle.bv_device.specs.Seen.{Performs};
 ghost use Rattle.bv_journal.specs.Plans.{ring_writes};
 ghost use Rattle.bv_ring.specs.Cursor.{past};
 ghost use Rattle.bv_journaled.specs.Entering.{room_plan, with_room, entry_plan, StopsShort};
-ghost use Rattle.bv_journaled.specs.Standing.{IsStanding};
+ghost use Rattle.bv_journaled.specs.Standing.{IsStanding, stored_of};
 
 use crate::prepared::Prepared;
 use crate::store::JournaledStore;
@@ -85,12 +86,13 @@ impl<D: Device> JournaledStore<D> {
         self.planned.take()
     }
 
-    /// Makes the changes of an entry in memory.
+    /// Makes the changes of an entry in memory, once a sync and its blocks were Ok.
     fn enter(&mut self, entry: &Entry, purged: &[Digest], changes: Vec<Change>)
         requires none { self.old.planned ≡ None }
         requires below { All (λ t. t.0 < meta_blocks self.old.meta.geometry) entry.now.targets }
         requires formed { is_well_formed (metadata_at self.old.meta.geometry
             (patched entry.now.targets self.old.meta.blocks)) ≡ true }
+        requires right { IfSome (stored_of self.old).told ReadsRight }
         ensures { self.new ≡ record self.old {
           meta = record self.old.meta { blocks = patched entry.now.targets self.old.meta.blocks };
           gone = changes.items;

@@ -1,6 +1,6 @@
 //! A store on a device.
 
-ghost use Rattle.std.specs.Prelude.{◌≡◌, ◌<◌, ◌≤◌, [], true, None, Some, OnOk, OnErr, IfSome, IsTrue};
+ghost use Rattle.std.specs.Prelude.{◌≡◌, ◌<◌, ◌≤◌, [], true, None, Some, OnOk, OnErr, IfSome, IsTrue, option_map};
 ghost use Rattle.spec_disk.specs.Disk.{block, reads_right};
 ghost use Rattle.spec_record.specs.Geometry.{block_at, total_blocks};
 ghost use Rattle.spec_faults.specs.Faults.{CountsFaults};
@@ -11,7 +11,9 @@ ghost use Rattle.bv_device.specs.Seen.{Performs};
 ghost use Rattle.bv_journal.specs.Plans.{checkpoint_plan};
 ghost use Rattle.bv_store.specs.Stored.{HasWholeBlocks};
 ghost use Rattle.bv_ring.specs.Cursor.{IsCursor, StandsBehind, emptied, info_at_cursor};
-ghost use Rattle.bv_journaled.specs.Standing.{IsPrepared, IsStanding, Both, stored_of};
+ghost use Rattle.bv_journaled.specs.Since.{since};
+ghost use Rattle.bv_journaled.specs.Standing.{IsHeld, IsPrepared, IsStanding, Both, stored_of};
+ghost use Rattle.bv_device.specs.Reads.{ReadsRight};
 ghost use Rattle.bv_journaled.specs.Kept.{KeepsMap, map_at};
 ghost use Rattle.bv_journal.specs.Rests.{AtRest};
 ghost use Rattle.bv_txn.specs.Metas.{IsLawful};
@@ -73,8 +75,9 @@ impl<D: Device> Model for JournaledStore<D> {
 
 impl<D: Device> JournaledStore<D> {
     /// The store of a volume with an empty journal, on a device that had made so many writes and
-    /// syncs when the mount began. Where what the device tells since then has that journal at rest
-    /// and each blob kept, the store can go on from the map of the metadata.
+    /// syncs when the mount began. Every block reads right since then, as after a recovery that was
+    /// Ok. Where what the device tells since then has that journal at rest and each blob kept, the
+    /// store can go on from the map of the metadata.
     pub fn new(alloc: Global, dev: D, opened: u64, meta: Meta, ring: Ring) -> JournaledStore<D>
         requires lawful { IsLawful meta.geometry meta.blocks }
         requires cursor { IsCursor ring }
@@ -82,6 +85,7 @@ impl<D: Device> JournaledStore<D> {
         requires total { total_blocks meta.geometry ≤ (D.seen dev).block_count }
         requires formed { is_well_formed (metadata_at meta.geometry meta.blocks) ≡ true }
         requires opened { opened ≤ (D.seen dev).calls_made }
+        requires right { IfSome (option_map (since opened) (D.seen dev).told) ReadsRight }
         ensures value { result ≡ record {
           device = D.seen dev;
           opened = opened;
@@ -176,9 +180,10 @@ impl<D: Device> JournaledStore<D> {
         self.planned = Some(prepared);
     }
 
-    /// Writes a data block.
+    /// Writes a data block that belongs to no blob.
     pub(crate) fn write_data(&mut self, at: u64, from: &Block) -> Result<(), Failed>
-        requires { at < self.old.meta.geometry.blocks }
+        requires within { at < self.old.meta.geometry.blocks }
+        requires free { ¬ IsHeld self.old at }
         ensures performs { Performs result (a_write (block_at self.old.meta.geometry at) from.now)
             self.old.device self.new.device }
         ensures standing { IsStanding self.old }

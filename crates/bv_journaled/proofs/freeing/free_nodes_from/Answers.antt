@@ -1,4 +1,4 @@
-use Rattle.std.proofs.Common.{◌≡◌, ◌+◌, ◌∙◌, [], true, false, ap, sym, subst, arith, length, ◌++◌, ◌∷◌, length-append}
+use Rattle.std.proofs.Common.{◌≡◌, ◌+◌, ◌∙◌, [], true, ap, sym, subst, arith, length, ◌++◌, ◌∷◌, length-append}
 use Rattle.spec_record.specs.declared.geometry.Geometry.{Geometry}
 use Rattle.spec_image.specs.Metadata.{Metadata}
 use Rattle.bv_txn.specs.Metas.{metadata_of}

@@ -1,8 +1,6 @@
-use Rattle.std.proofs.Common.{◌≡◌, true, false, cond, ◌||◌, Bool, List, refl, ap, sym, ◌∙◌, map, take}
-use Rattle.std.proofs.lemmas.List.{take_all, take_more}
-use Rattle.std.proofs.lemmas.List.Folds.{list_any_more}
+use Rattle.std.proofs.Common.{List, ap, ◌∙◌, map, take}
+use Rattle.std.proofs.lemmas.List.{take_all}
 use Rattle.spec_tree.specs.declared.Digest.{Digest}
-use Rattle.spec_tree.specs.Order.{same_digest}
 use Rattle.spec_core.specs.State.{among}
 use Rattle.bv_txn.specs.Changes.{change_of}
 use Rattle.bv_txn.specs.Metas.{metadata_of}

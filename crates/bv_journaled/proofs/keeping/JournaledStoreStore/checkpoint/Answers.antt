@@ -3,6 +3,7 @@ use Rattle.bv_journal.specs.Plans.{checkpoint_plan}
 use Rattle.bv_ring.specs.Cursor.{info_at_cursor}
 use Rattle.bv_journaled.specs.Standing.{Standing, Both}
 use Rattle.bv_journaled.proofs.CallRows.{place_grows, place_both, place_settled}
+use Rattle.bv_journaled.proofs.FailedLemmas.{shown_failed, place_short}
 use Rattle.bv_journaled.proofs.RowLemmas.{run_counts, on_ok, on_ok_at, either}
 use Rattle.bv_journaled.proofs.keeping.JournaledStoreStore.checkpoint.Goals as goal
 use Rattle.bv_journaled.proofs.keeping.JournaledStoreStore.checkpoint.Goals.{After-write_in_place}
@@ -22,6 +23,12 @@ returns-clause-counts g c =
 pub returns-clause-grows : goal.returns-clause-grows
 returns-clause-grows g c =
     place_grows c.args.self.now c.write_in_place.ensures.standing c.write_in_place.result c.write_in_place.new.self (geometry g c) (opened g c) c.write_in_place.ensures.performs
+
+pub returns-clause-shown : goal.returns-clause-shown
+returns-clause-shown g c =
+    let s = c.args.self.now in
+    shown_failed c.write_in_place.result (checkpoint_plan s.meta.geometry s.meta.blocks (info_at_cursor s.cursor)) s c.write_in_place.new.self c.write_in_place.ensures.standing (geometry g c) (opened g c) c.write_in_place.ensures.performs
+    (λ d a b told rests. place_short s c.write_in_place.ensures.standing d a b rests)
 
 pub returns-clause-both : goal.returns-clause-both
 returns-clause-both g c =

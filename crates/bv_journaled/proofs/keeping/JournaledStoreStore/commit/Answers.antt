@@ -1,4 +1,5 @@
 use Rattle.bv_journaled.proofs.CommitRows.{Done, done, some_of, done_counts, done_grows, done_placed, done_kept, done_number, done_ring, done_nodes, done_nodes_kept, done_both, done_held}
+use Rattle.bv_journaled.proofs.FailedLemmas.{done_shown}
 use Rattle.bv_journaled.proofs.keeping.JournaledStoreStore.commit.Goals as goal
 use Rattle.bv_journaled.proofs.keeping.JournaledStoreStore.commit.Goals.{After-commit_planned}
 use Rattle.bv_journaled.proofs.keeping.JournaledStoreStore.commit.Given.{Over}
@@ -33,6 +34,9 @@ returns-clause-nodes g c = done_nodes c.commit_planned.result c.args.self.now c.
 
 pub returns-clause-nodes_kept : goal.returns-clause-nodes_kept
 returns-clause-nodes_kept g c = done_nodes_kept c.commit_planned.result c.args.self.now c.commit_planned.new.self c.requires.planned.0 (whole g c)
+
+pub returns-clause-shown : goal.returns-clause-shown
+returns-clause-shown g c = done_shown c.commit_planned.result c.args.self.now c.commit_planned.new.self c.requires.planned.0 (whole g c) c.requires.planned.3
 
 pub returns-clause-both : goal.returns-clause-both
 returns-clause-both g c = done_both c.commit_planned.result c.args.self.now c.commit_planned.new.self c.requires.planned.0 (whole g c) c.requires.planned.3

@@ -1,7 +1,9 @@
-use Rattle.std.proofs.Common.{◌≡◌, ap, sym, subst}
+use Rattle.std.proofs.Common.{◌≡◌, true, ap, sym, subst}
+use Rattle.spec_disk.specs.declared.event.Event.TheVariants.{Sync}
 use Rattle.bv_device.specs.Plan.{a_sync}
 use Rattle.bv_journaled.specs.Standing.{Standing, Both}
 use Rattle.bv_journaled.proofs.CallRows.{sync_grows, sync_both}
+use Rattle.bv_journaled.proofs.FailedLemmas.{shown_failed, one_short}
 use Rattle.bv_journaled.proofs.RowLemmas.{run_counts, on_ok, on_ok_at, either}
 use Rattle.bv_journaled.proofs.keeping.JournaledStoreStore.sync.Goals as goal
 use Rattle.bv_journaled.proofs.keeping.JournaledStoreStore.sync.Goals.{After-make_last}
@@ -20,6 +22,11 @@ returns-clause-counts g c =
 pub returns-clause-grows : goal.returns-clause-grows
 returns-clause-grows g c =
     sync_grows c.make_last.result c.args.self.now c.make_last.new.self c.make_last.ensures.standing (geometry g c) (opened g c) c.make_last.ensures.performs
+
+pub returns-clause-shown : goal.returns-clause-shown
+returns-clause-shown g c =
+    shown_failed c.make_last.result a_sync c.args.self.now c.make_last.new.self c.make_last.ensures.standing (geometry g c) (opened g c) c.make_last.ensures.performs
+    (λ d a b told rests. one_short c.args.self.now (Sync true) d a b rests)
 
 pub returns-clause-both : goal.returns-clause-both
 returns-clause-both g c =

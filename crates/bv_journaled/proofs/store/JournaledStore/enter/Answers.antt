@@ -1,7 +1,8 @@
-use Rattle.std.proofs.Common.{ap, ◌∙◌}
+use Rattle.std.proofs.Common.{IfSome, ap, sym, ◌∙◌, subst}
 use Rattle.spec_image.specs.WellFormed.{is_well_formed}
 use Rattle.spec_meta.specs.Blocks.{metadata_at, patched}
-use Rattle.bv_journaled.specs.Standing.{Standing}
+use Rattle.bv_device.specs.Reads.{ReadsRight}
+use Rattle.bv_journaled.specs.Standing.{Standing, stored_of}
 use Rattle.bv_journaled.proofs.EnteringLemmas.{entered}
 use Rattle.bv_journaled.proofs.store.JournaledStore.enter.Goals as goal
 
@@ -20,3 +21,4 @@ invariant_of-self g c =
     (ap (λ (x : Standing). x.planned) c.self.view_is ∙ c.requires.none)
     (ap (λ (x : Standing). is_well_formed (metadata_at x.meta.geometry (patched c.args.entry.now.targets x.meta.blocks))) c.self.view_is ∙ c.requires.formed)
     c.apply.ensures.geometry c.apply.ensures.blocks
+    (subst (λ (x : Standing). IfSome (stored_of x).told ReadsRight) (sym c.self.view_is) c.requires.right)

@@ -13,7 +13,7 @@ pub invariant_of-result : goal.invariant_of-result
 invariant_of-result g c =
     subst (λ (l : List Change). IsStanding (record (begun (g.D.Device.seen c.args.dev) c.args.opened c.args.meta c.args.ring) { gone = l })) (sym c.new.ensures.items)
     (opened_standing (g.D.Device.seen c.args.dev) c.args.opened c.args.meta c.args.ring c.requires.lawful.limits c.requires.cursor c.requires.same c.requires.total c.requires.lawful.count c.requires.formed c.requires.opened
-    (g.met.D.Device.told_calls c.args.dev))
+    (g.met.D.Device.told_calls c.args.dev) c.requires.right)
 
 pub returns-clause-both : goal.returns-clause-both
 returns-clause-both g c =
