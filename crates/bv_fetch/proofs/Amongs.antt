@@ -1,8 +1,9 @@
 -- The data and the tree among a blob's blocks: what a fetch finds is found among these.
 use Rattle.std.proofs.Common.{◌≡◌, ℕ, zero, suc, ◌+◌, ◌-◌, ◌<◌, ◌≤◌, ◌==◌, Bool, true, false, List, [], ◌∷◌, length, take, drop, map, refl, ap, sym, ◌∙◌, arith}
-use Rattle.std.specs.Prelude.{if◌then◌else◌}
+use Rattle.std.specs.Prelude.{All, if◌then◌else◌}
 use Rattle.std.specs.List.{range_with_len, sum_by}
 use Rattle.std.proofs.lemmas.List.{length-map, length-take, length-drop, take-map, drop-map, get_or-take}
+use Rattle.std.proofs.lemmas.List.Elements.{All-take, All-drop}
 use Rattle.spec_tree.specs.declared.Digest.{Digest}
 use Rattle.spec_tree.specs.declared.blob.Blob.{Blob}
 use Rattle.spec_tree.specs.Tree.{data_blocks, digests_at, levels_of, need_of, tree_blocks_of, windows_of}
@@ -49,6 +50,21 @@ length-tree {X} version size xs need = go (version == 2)
     go : (two : Bool) → length (if two then drop (data_blocks size) xs else take (length xs - data_blocks size) xs) ≡ tree_blocks_of version size
     go true = length-drop (data_blocks size) xs ∙ omega (arith, need)
     go false = length-take (length xs - data_blocks size) xs ∙ omega (arith, need)
+
+-- what holds of all blocks holds of the data and of the tree
+pub data-of : {X : Type 0} (P : X → Type 0) (version size : ℕ) (xs : List X) → All P xs → All P (data_among version size xs)
+data-of {X} P version size xs all = go (version == 2)
+  where
+    go : (two : Bool) → All P (if two then take (data_blocks size) xs else drop (length xs - data_blocks size) xs)
+    go true = All-take P (data_blocks size) xs all
+    go false = All-drop P (length xs - data_blocks size) xs all
+
+pub tree-of : {X : Type 0} (P : X → Type 0) (version size : ℕ) (xs : List X) → All P xs → All P (tree_among version size xs)
+tree-of {X} P version size xs all = go (version == 2)
+  where
+    go : (two : Bool) → All P (if two then drop (data_blocks size) xs else take (length xs - data_blocks size) xs)
+    go true = All-drop P (data_blocks size) xs all
+    go false = All-take P (length xs - data_blocks size) xs all
 
 -- functions that agree on a range
 pub same-on : {X : Type 0} (f g : ℕ → X) (a n : ℕ) → ((i : ℕ) → a ≤ i → i < a + n → f i ≡ g i) → map f (range_with_len a n) ≡ map g (range_with_len a n)

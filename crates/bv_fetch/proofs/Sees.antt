@@ -1,24 +1,24 @@
 -- What reads give, from read to read.
-use Rattle.std.proofs.Common.{◌≡◌, ℕ, List, IsTrue, Option, Some, None, IfSome, Result, Ok, Err, OnOk, refl, ap, sym, ◌∙◌, subst, arith}
-use Rattle.spec_disk.specs.Disk.{block, reads_right}
+use Rattle.std.proofs.Common.{◌≡◌, ℕ, List, Option, Some, None, IfSome, Result, Ok, Err, OnOk, refl, ap, sym, ◌∙◌, subst, arith}
+use Rattle.std.specs.Prelude.{Contains}
+use Rattle.spec_disk.specs.Disk.{block}
 use Rattle.spec_disk.specs.Images.{IsSettled}
 use Rattle.spec_faults.specs.Faults.{CountsFaults}
 use Rattle.spec_rest.specs.Rest.{Map}
-use Rattle.bv_device.specs.Reads.{ReadsRight}
 use Rattle.bv_device.specs.Told.{Disk, now_of}
 use Rattle.spec_record.specs.Geometry.{block_at}
 use Rattle.spec_record.specs.declared.geometry.Geometry.{Geometry}
-use Rattle.bv_store.specs.Stored.{Stored}
+use Rattle.bv_store.specs.Stored.{Stored, blocks_in}
 use Rattle.bv_fetch.specs.Reading.{OnlyReads, SeesNow}
 
 -- what holds of the disk by two facts
 pub sees_two : (s : Stored) (P Q R : Disk → Type 0) → ((d : Disk) → P d → Q d → R d) → SeesNow s P → SeesNow s Q → SeesNow s R
 sees_two s P Q R so p q = go s.told p q
   where
-    go : (o : Option Disk) → IfSome o (λ d. IfSome s.began (λ b. IsSettled b.trace) → ReadsRight d → P d) → IfSome o (λ d. IfSome s.began (λ b. IsSettled b.trace) → ReadsRight d → Q d)
-        → IfSome o (λ d. IfSome s.began (λ b. IsSettled b.trace) → ReadsRight d → R d)
+    go : (o : Option Disk) → IfSome o (λ d. IfSome s.began (λ b. IsSettled b.trace) → P d) → IfSome o (λ d. IfSome s.began (λ b. IsSettled b.trace) → Q d)
+        → IfSome o (λ d. IfSome s.began (λ b. IsSettled b.trace) → R d)
     go None p q = tt
-    go (Some d) p q = λ settled right. so d (p settled right) (q settled right)
+    go (Some d) p q = λ settled. so d (p settled) (q settled)
 
 -- by one
 pub sees_so : (s : Stored) (P R : Disk → Type 0) → ((d : Disk) → P d → R d) → SeesNow s P → SeesNow s R
@@ -28,17 +28,17 @@ sees_so s P R so p = sees_two s P P R (λ d x y. so d x) p p
 pub sees_given : (s : Stored) (P R : Disk → Type 0) → IfSome s.told P → SeesNow s (λ d. P d → R d) → SeesNow s R
 sees_given s P R told h = go s.told told h
   where
-    go : (o : Option Disk) → IfSome o P → IfSome o (λ d. IfSome s.began (λ b. IsSettled b.trace) → ReadsRight d → P d → R d) → IfSome o (λ d. IfSome s.began (λ b. IsSettled b.trace) → ReadsRight d → R d)
+    go : (o : Option Disk) → IfSome o P → IfSome o (λ d. IfSome s.began (λ b. IsSettled b.trace) → P d → R d) → IfSome o (λ d. IfSome s.began (λ b. IsSettled b.trace) → R d)
     go None p h = tt
-    go (Some d) p h = λ settled right. h settled right p
+    go (Some d) p h = λ settled. h settled p
 
 -- by none
 pub sees_all : (s : Stored) (R : Disk → Type 0) → ((d : Disk) → R d) → SeesNow s R
 sees_all s R all = go s.told
   where
-    go : (o : Option Disk) → IfSome o (λ d. IfSome s.began (λ b. IsSettled b.trace) → ReadsRight d → R d)
+    go : (o : Option Disk) → IfSome o (λ d. IfSome s.began (λ b. IsSettled b.trace) → R d)
     go None = tt
-    go (Some d) = λ settled right. all d
+    go (Some d) = λ settled. all d
 
 -- reads that were Ok left all as it was
 pub record Stays (old new : Stored) (Both New : Map → Map → Type 0) (Held Hold : ℕ → Type 0) : Type 0 where
@@ -81,15 +81,15 @@ module _ (s new : Stored) (Both New : Map → Map → Type 0) (Held Hold : ℕ �
     held = a.held;
   }
 
--- one block that was read
-pub one_block : (s : Stored) (x : List ℕ) (at : ℕ) → IfSome s.told (λ d. IfSome s.began (λ b. IsSettled b.trace) → IsTrue (reads_right d.trace (block_at s.geometry at)) → x ≡ block (now_of d) (block_at s.geometry at))
+-- one block of a blob that was read
+pub one_block : (s : Stored) (x : List ℕ) (at : ℕ) → Contains (blocks_in s.placed) at → IfSome s.told (λ d. IfSome s.began (λ b. IsSettled b.trace) → Contains (blocks_in s.placed) at → x ≡ block (now_of d) (block_at s.geometry at))
     → SeesNow s (λ d. x ≡ block (now_of d) (block_at s.geometry at))
-one_block s x at read = go s.told read
+one_block s x at of read = go s.told read
   where
-    go : (o : Option Disk) → IfSome o (λ d. IfSome s.began (λ b. IsSettled b.trace) → IsTrue (reads_right d.trace (block_at s.geometry at)) → x ≡ block (now_of d) (block_at s.geometry at))
-        → IfSome o (λ d. IfSome s.began (λ b. IsSettled b.trace) → ReadsRight d → x ≡ block (now_of d) (block_at s.geometry at))
+    go : (o : Option Disk) → IfSome o (λ d. IfSome s.began (λ b. IsSettled b.trace) → Contains (blocks_in s.placed) at → x ≡ block (now_of d) (block_at s.geometry at))
+        → IfSome o (λ d. IfSome s.began (λ b. IsSettled b.trace) → x ≡ block (now_of d) (block_at s.geometry at))
     go None read = tt
-    go (Some d) read = λ settled right. read settled (right (block_at s.geometry at))
+    go (Some d) read = λ settled. read settled of
 
 -- what is seen after reads was so before them
 pub sees_on : (s new : Stored) (f : ℕ) (P : Geometry → Disk → Type 0) → new ≡ record s { faults = f } → SeesNow new (P new.geometry) → SeesNow s (P s.geometry)

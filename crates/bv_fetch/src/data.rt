@@ -1,13 +1,13 @@
 //! The data of a window, read block by block.
 
-ghost use Rattle.std.specs.Prelude.{◌≡◌, ◌≤◌, ◌<◌, ◌+◌, ◌++◌, take, length, vec_len, vec_capacity, All, OnOk};
+ghost use Rattle.std.specs.Prelude.{◌≡◌, ◌≤◌, ◌<◌, ◌+◌, ◌++◌, take, length, vec_len, vec_capacity, All, Contains, OnOk};
 ghost use Rattle.spec_disk.specs.Disk.{block};
 ghost use Rattle.spec_record.specs.Geometry.{block_at};
 ghost use Rattle.spec_tree.specs.Tree.{data_blocks, windows_of};
 ghost use Rattle.spec_window.specs.Window as W;
 ghost use Rattle.bv_device.specs.Told.{now_of};
-ghost use Rattle.bv_store.specs.Stored.{blocks_on};
-ghost use Rattle.bv_fetch.specs.Reading.{OnlyReads, SeesNow};
+ghost use Rattle.bv_store.specs.Stored.{blocks_in, blocks_on};
+ghost use Rattle.bv_fetch.specs.Reading.{AreOfBlobs, OnlyReads, SeesNow};
 ghost use Rattle.bv_fetch.specs.Windows.{data_window};
 
 use crate::BLOCK_LEN;
@@ -24,6 +24,7 @@ fn add_piece<S: Store>(
     out: &mut Vec<u8>,
 ) -> Result<(), Failed>
     requires at { at < (S.seen store.old).geometry.blocks }
+    requires blob { Contains (blocks_in (S.seen store.old).placed) at }
     requires count { count ≤ 8192 }
     requires room { vec_len out.old + count ≤ vec_capacity out.old }
     ensures reads { OnlyReads result (S.seen store.old) (S.seen store.new) (S.both store.old)
@@ -51,6 +52,7 @@ pub(crate) fn read_data<S: Store>(
     requires window { window < windows_of size }
     requires count { length content.now ≡ data_blocks size }
     requires within { All (λ b. b < (S.seen store.old).geometry.blocks) content.now }
+    requires blobs { AreOfBlobs (S.seen store.old) content.now }
     requires empty { vec_len out.old ≡ 0 }
     requires room { W.window_bytes size window ≤ vec_capacity out.old }
     ensures reads { OnlyReads result (S.seen store.old) (S.seen store.new) (S.both store.old)

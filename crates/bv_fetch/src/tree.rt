@@ -3,7 +3,7 @@
 ghost use Rattle.std.specs.Prelude.{◌≡◌, ◌≤◌, ◌<◌, ◌+◌, ◌++◌, take, drop, length, vec_len, vec_capacity, All, OnOk};
 ghost use Rattle.spec_tree.specs.Tree as T;
 ghost use Rattle.bv_store.specs.Stored.{blocks_on};
-ghost use Rattle.bv_fetch.specs.Reading.{OnlyReads, SeesNow};
+ghost use Rattle.bv_fetch.specs.Reading.{AreOfBlobs, OnlyReads, SeesNow};
 ghost use Rattle.bv_fetch.specs.Windows.{block_among, compact_among, padded_among, path_among};
 
 use crate::places::{are_whole, digests_of};
@@ -37,6 +37,7 @@ fn read_padded<S: Store>(
     requires block { i < T.digests_at size level }
     requires count { length tree.now ≡ T.tree_blocks_of 1 size }
     requires within { All (λ b. b < (S.seen store.old).geometry.blocks) tree.now }
+    requires blobs { AreOfBlobs (S.seen store.old) tree.now }
     ensures reads { OnlyReads result (S.seen store.old) (S.seen store.new) (S.both store.old)
         (S.both store.new) (S.held store.old) (S.held store.new) }
     ensures now { OnOk result (SeesNow (S.seen store.old) (λ d. into.new
@@ -61,6 +62,7 @@ fn read_compact<S: Store>(
     requires block { i < T.digests_at size level }
     requires count { length tree.now ≡ T.tree_blocks_of 2 size }
     requires within { All (λ b. b < (S.seen store.old).geometry.blocks) tree.now }
+    requires blobs { AreOfBlobs (S.seen store.old) tree.now }
     ensures reads { OnlyReads result (S.seen store.old) (S.seen store.new) (S.both store.old)
         (S.both store.new) (S.held store.old) (S.held store.new) }
     ensures now { OnOk result (SeesNow (S.seen store.old) (λ d. into.new
@@ -98,6 +100,7 @@ fn read_tree_block<S: Store>(
     requires block { i < T.digests_at size level }
     requires count { length tree.now ≡ T.tree_blocks_of version size }
     requires within { All (λ b. b < (S.seen store.old).geometry.blocks) tree.now }
+    requires blobs { AreOfBlobs (S.seen store.old) tree.now }
     ensures reads { OnlyReads result (S.seen store.old) (S.seen store.new) (S.both store.old)
         (S.both store.new) (S.held store.old) (S.held store.new) }
     ensures now { OnOk result (SeesNow (S.seen store.old) (λ d. into.new
@@ -123,6 +126,7 @@ pub(crate) fn read_path<S: Store>(
     requires window { window < T.windows_of size }
     requires count { length tree.now ≡ T.tree_blocks_of version size }
     requires within { All (λ b. b < (S.seen store.old).geometry.blocks) tree.now }
+    requires blobs { AreOfBlobs (S.seen store.old) tree.now }
     requires empty { vec_len path.old ≡ 0 }
     requires room { T.levels_of size ≤ vec_capacity path.old }
     ensures reads { OnlyReads result (S.seen store.old) (S.seen store.new) (S.both store.old)

@@ -3,7 +3,7 @@
 ghost use Rattle.std.specs.Prelude.{◌≡◌, ◌≤◌, ◌<◌, length, vec_len, vec_capacity, All, OnOk, IfOk};
 ghost use Rattle.spec_tree.specs.Tree as T;
 ghost use Rattle.spec_window.specs.Window as W;
-ghost use Rattle.bv_fetch.specs.Reading.{OnlyReads, SeesNow};
+ghost use Rattle.bv_fetch.specs.Reading.{AreOfBlobs, OnlyReads, SeesNow};
 ghost use Rattle.bv_fetch.specs.Windows.{HasRoom, Holds, HasLengths};
 
 use crate::data::read_data;
@@ -40,6 +40,7 @@ pub fn read_window<S: Store>(
     requires window { raw.old.window < T.windows_of blob.size }
     requires need { length places.now ≡ T.need_of blob.version blob.size }
     requires within { All (λ b. b < (S.seen store.old).geometry.blocks) places.now }
+    requires blobs { AreOfBlobs (S.seen store.old) places.now }
     requires room { HasRoom blob.size raw.old.window raw.old }
     ensures reads { OnlyReads result (S.seen store.old) (S.seen store.new) (S.both store.old)
         (S.both store.new) (S.held store.old) (S.held store.new) }

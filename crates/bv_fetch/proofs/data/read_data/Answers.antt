@@ -1,12 +1,19 @@
-use Rattle.std.proofs.Common.{◌≡◌, ℕ, ◌+◌, ◌*◌, ◌<◌, ◌++◌, take, get_or, ◌∙◌, arith}
+use Rattle.std.proofs.Common.{◌≡◌, ℕ, ◌+◌, ◌*◌, ◌<◌, ◌++◌, take, get_or, length, sym, subst, ◌∙◌, arith}
+use Rattle.std.specs.Prelude.{Contains}
 use Rattle.spec_disk.specs.Disk.{block}
 use Rattle.spec_record.specs.Geometry.{block_at}
 use Rattle.bv_device.specs.Told.{now_of}
-use Rattle.bv_store.specs.Stored.{blocks_on}
+use Rattle.bv_store.specs.Stored.{Stored, blocks_in, blocks_on}
 use Rattle.bv_fetch.proofs.Sees.{sees_given, sees_same, sees_so, sees_two, stays_of, stays_then}
 use Rattle.bv_fetch.proofs.Steps.{data_step}
 use Rattle.bv_fetch.proofs.Wholes.{data-all}
 use Rattle.bv_fetch.proofs.data.read_data.Goals as goal
+
+pub add_piece-requires-clause-blob : goal.add_piece-requires-clause-blob
+add_piece-requires-clause-blob g c =
+    let place : ℕ = 8 * c.args.window + c.loop-k.k in
+    let within : place < length c.args.content.now = omega (arith, c.requires.count, c.requires.window, c.loop-k-test.true, c.div_ceil-k-end.ensures, c.window_bytes-bytes.ensures) in
+    subst (λ (x : Stored). Contains (blocks_in x.placed) (get_or c.args.content.now place 0)) (sym c.loop-k.invariant.stays.same) (c.requires.blobs place 0 within)
 
 pub loop-k-preserved : goal.loop-k-preserved
 loop-k-preserved g c =

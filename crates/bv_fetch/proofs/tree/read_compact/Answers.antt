@@ -1,9 +1,10 @@
-use Rattle.std.proofs.Common.{◌≡◌, ◌+◌, ◌*◌, ◌/◌, ℕ, get_or, length, ap, ◌∙◌, arith}
+use Rattle.std.proofs.Common.{◌≡◌, ◌+◌, ◌*◌, ◌/◌, ℕ, get_or, length, ap, sym, subst, ◌∙◌, arith}
+use Rattle.std.specs.Prelude.{Contains}
 use Rattle.spec_disk.specs.Disk.{block}
 use Rattle.spec_record.specs.Geometry.{block_at}
 use Rattle.spec_tree.proofs.SizesLemmas.{levels_of-few}
 use Rattle.bv_device.specs.Told.{now_of}
-use Rattle.bv_store.specs.Stored.{Stored}
+use Rattle.bv_store.specs.Stored.{Stored, blocks_in}
 use Rattle.bv_fetch.proofs.Compacts.{compact_one, compact_two, few, first_there, next_there}
 use Rattle.bv_fetch.proofs.Sees.{one_block, sees_given, sees_on, sees_so, sees_two}
 use Rattle.bv_fetch.proofs.Steps.{as_long, block_is}
@@ -57,8 +58,8 @@ returns-in_ok-read-2-clause-now g c =
     (sees_two s (λ d. x ≡ block (now_of d) (block_at s.geometry (get_or tree at 0))) (λ d. y ≡ block (now_of d) (block_at s.geometry (get_or tree (at + 1) 0))) _
     (λ d p q whole. compact_two c.args.size c.args.level c.args.i c.digests_of.result c.used_places.result c.min-head.result (length tree) c.requires.lowest c.requires.highest c.requires.block c.requires.count c.digests_of.ensures.value c.used_places.ensures c.min-head.ensures
     _ whole (as_long s.geometry d tree) x c.copy_part.new.into (p ∙ block_is s.geometry d tree at (first_there c.args.size c.args.level c.args.i c.digests_of.result c.used_places.result 0 (length c.args.tree.now) c.requires.lowest c.requires.highest c.requires.block c.requires.count c.digests_of.ensures.value c.used_places.ensures)) c.copy_part.ensures y c.copy_part-then-head-used.new.into c.if-head-used.true (q ∙ block_is s.geometry d tree (at + 1) (next_there c.args.size c.args.level c.args.i c.digests_of.result c.used_places.result c.min-head.result (length c.args.tree.now) c.requires.lowest c.requires.highest c.requires.block c.requires.count c.digests_of.ensures.value c.used_places.ensures c.min-head.ensures c.if-head-used.true)) c.copy_part-then-head-used.ensures)
-    (one_block s x (get_or tree at 0) c.in_ok-read.ensures.ok)
-    (sees_on s mid _ (λ geometry d. y ≡ block (now_of d) (block_at geometry (get_or tree (at + 1) 0))) c.in_ok-read.ensures.rest (one_block mid y (get_or tree (at + 1) 0) c.in_ok-read-2.ensures.ok)))
+    (one_block s x (get_or tree at 0) (c.requires.blobs at 0 (first_there c.args.size c.args.level c.args.i c.digests_of.result c.used_places.result 0 (length c.args.tree.now) c.requires.lowest c.requires.highest c.requires.block c.requires.count c.digests_of.ensures.value c.used_places.ensures)) c.in_ok-read.ensures.blob)
+    (sees_on s mid _ (λ geometry d. y ≡ block (now_of d) (block_at geometry (get_or tree (at + 1) 0))) c.in_ok-read.ensures.rest (one_block mid y (get_or tree (at + 1) 0) (subst (λ (z : Stored). Contains (blocks_in z.placed) (get_or tree (at + 1) 0)) (sym c.in_ok-read.ensures.rest) (c.requires.blobs (at + 1) 0 (next_there c.args.size c.args.level c.args.i c.digests_of.result c.used_places.result c.min-head.result (length c.args.tree.now) c.requires.lowest c.requires.highest c.requires.block c.requires.count c.digests_of.ensures.value c.used_places.ensures c.min-head.ensures c.if-head-used.true))) c.in_ok-read-2.ensures.blob)))
 
 pub returns-else-head-used-clause-now : goal.returns-else-head-used-clause-now
 returns-else-head-used-clause-now g c =
@@ -70,4 +71,4 @@ returns-else-head-used-clause-now g c =
     (sees_so s (λ d. x ≡ block (now_of d) (block_at s.geometry (get_or tree at 0))) _
     (λ d p whole. compact_one c.args.size c.args.level c.args.i c.digests_of.result c.used_places.result c.min-head.result (length tree) c.requires.lowest c.requires.highest c.requires.block c.requires.count c.digests_of.ensures.value c.used_places.ensures c.min-head.ensures
     _ whole (as_long s.geometry d tree) x c.copy_part.new.into (p ∙ block_is s.geometry d tree at (first_there c.args.size c.args.level c.args.i c.digests_of.result c.used_places.result 0 (length c.args.tree.now) c.requires.lowest c.requires.highest c.requires.block c.requires.count c.digests_of.ensures.value c.used_places.ensures)) c.copy_part.ensures c.if-head-used.false)
-    (one_block s x (get_or tree at 0) c.in_ok-read.ensures.ok))
+    (one_block s x (get_or tree at 0) (c.requires.blobs at 0 (first_there c.args.size c.args.level c.args.i c.digests_of.result c.used_places.result 0 (length c.args.tree.now) c.requires.lowest c.requires.highest c.requires.block c.requires.count c.digests_of.ensures.value c.used_places.ensures)) c.in_ok-read.ensures.blob))

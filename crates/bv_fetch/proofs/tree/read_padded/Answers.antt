@@ -28,6 +28,6 @@ read-requires g c = c.requires.within (c.digests_of.result + c.args.i) 0 (there 
 pub returns-clause-now : goal.returns-clause-now
 returns-clause-now g c =
     let s = g.S.Store.seen c.args.store.now in
-    ok_then c.read.result c.read.ensures.ok
+    ok_then c.read.result c.read.ensures.blob
     (λ h. sees_so s _ _ (λ d is. padded_step s.geometry d c.args.tree.now c.args.size c.args.level c.args.i c.digests_of.result c.read.new.into c.digests_of.ensures.value (there c.args.size c.args.level c.args.i c.digests_of.result (length c.args.tree.now) c.requires.lowest c.requires.highest c.requires.block c.requires.count c.digests_of.ensures.value) is)
-    (one_block s c.read.new.into _ h))
+    (one_block s c.read.new.into _ (c.requires.blobs (c.digests_of.result + c.args.i) 0 (there c.args.size c.args.level c.args.i c.digests_of.result (length c.args.tree.now) c.requires.lowest c.requires.highest c.requires.block c.requires.count c.digests_of.ensures.value)) h))

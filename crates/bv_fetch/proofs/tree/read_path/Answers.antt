@@ -1,7 +1,8 @@
-use Rattle.std.proofs.Common.{◌≡◌, ℕ, ◌+◌, map, ap, ◌∙◌, arith}
+use Rattle.std.proofs.Common.{◌≡◌, ℕ, ◌+◌, map, ap, sym, subst, ◌∙◌, arith}
 use Rattle.std.specs.List.{range_with_len}
 use Rattle.spec_window.specs.Window.{index_above}
-use Rattle.bv_store.specs.Stored.{blocks_on}
+use Rattle.bv_store.specs.Stored.{Stored, blocks_on}
+use Rattle.bv_fetch.specs.Reading.{AreOfBlobs}
 use Rattle.bv_fetch.specs.Windows.{block_among}
 use Rattle.bv_fetch.proofs.Sees.{sees_same, sees_so, sees_two, stays_of, stays_then}
 use Rattle.bv_fetch.proofs.Steps.{path_step}
@@ -10,6 +11,10 @@ use Rattle.bv_fetch.proofs.tree.read_path.Goals as goal
 
 pub read_tree_block-requires-clause-block : goal.read_tree_block-requires-clause-block
 read_tree_block-requires-clause-block g c = omega (arith, index-there c.args.size c.args.window (c.loop-below.below + 1) c.requires.window, c.index_above-i.ensures.value)
+
+pub read_tree_block-requires-clause-blobs : goal.read_tree_block-requires-clause-blobs
+read_tree_block-requires-clause-blobs g c =
+    subst (λ (x : Stored). AreOfBlobs x c.args.tree.now) (sym c.loop-below.invariant.stays.same) c.requires.blobs
 
 pub loop-below-preserved : goal.loop-below-preserved
 loop-below-preserved g c =
