@@ -14,6 +14,7 @@ use Rattle.spec_inspect.specs.declared.mount_fault.MountFault.{MountFault}
 use Rattle.spec_core.specs.History.{opening_map}
 use Rattle.spec_crash.specs.Crash.{HoldsWhole, CrashPrefix}
 use Rattle.spec_rest.specs.Rest.{Map}
+use Rattle.bv_device.specs.Reads.{ReadsRight}
 use Rattle.bv_device.specs.Told.{Disk, now_of, disk_with}
 use Rattle.bv_device.specs.Plan.{with_events, Follows}
 use Rattle.bv_device.specs.Seen.{Seen}
@@ -22,11 +23,12 @@ use Rattle.bv_journal.specs.Rests.{AtRest}
 use Rattle.bv_mount.specs.declared.inspected.Inspected.{Inspected}
 use Rattle.bv_mount.specs.Inspects.{inspection, IsInspected}
 use Rattle.bv_mount.specs.Recovers.{plan_for, next_for, KeepsVolume}
-use Rattle.bv_mount.proofs.RunLemmas.{recovery_keeps, run_keeps}
+use Rattle.bv_mount.proofs.RunLemmas.{planned, recovery_keeps, run_keeps}
 use Rattle.bv_ring.specs.Cursor.{Cursor, cursor_at, StandsBehind}
 use Rattle.bv_journaled.specs.Kept.{map_at, KeepsMap}
 use Rattle.bv_journaled.specs.Since.{began_at, since}
 use Rattle.bv_journaled.specs.Standing.{Standing, stored_of, Both}
+use Rattle.bv_journaled.proofs.RightLemmas.{plan_right}
 use Rattle.bv_volume.specs.Seen.{Opened}
 use Rattle.bv_mounted.specs.Mounts.{records_in, history_of, recovered, first_standing, WasRecovered}
 use Rattle.bv_mounted.proofs.SafeLemmas.{opening_is, stands, recovery_safe, rests_after, kept_after, image_blobs}
@@ -129,3 +131,8 @@ told_keeps i r None new count long total gives follows = tt
 told_keeps i r (Some d) new count long total gives follows =
     λ settled. run_keeps d (plan_for (inspection i))
     (recovery_keeps i (now_of d) (gives settled) (omega (arith, long, total, length-now_after d.base d.trace))) r new follows
+
+-- every block reads right since then: what a recovery writes was Ok
+pub told_right : (i : Inspected) (n : ℕ) (o : Option Disk) → IfSome o (WasRecovered i n) → IfSome (option_map (since n) o) ReadsRight
+told_right i n None was = tt
+told_right i n (Some d) was = subst ReadsRight (sym was.is) (λ b. plan_right b (plan_for (inspection i)) (planned (inspection i)))

@@ -82,7 +82,7 @@ fetch_spaced t a s s' Both New Held Hold places blob w result read spaced =
 
 -- ---- where a blob lies that a slot holds
 
-held_here : (slots : List (Place × Digest)) (p : Place) (r : Digest) → held slots p ≡ Some r → is_held slots r ≡ true
+pub held_here : (slots : List (Place × Digest)) (p : Place) (r : Digest) → held slots p ≡ Some r → is_held slots r ≡ true
 held_here [] p r h = cc
 held_here (e ∷ es) p r h = go (is_at (place_cmp p) e.0) (held_here es p r) h
   where

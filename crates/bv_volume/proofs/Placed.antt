@@ -97,6 +97,14 @@ find_other placed (x ∷ rs) r h =
     let apart = or_false (same_digest r x) (among rs r) h in
     find_other (without placed x) rs r apart.1 ∙ lookup-remove_other digest_total placed x r (other_digest x r apart.0)
 
+-- the map at a root that isn't purged
+pub purged_other : (m : Map) (rs : List Digest) (r : Digest) → among rs r ≡ false → find (changed m (purges m rs)) r ≡ find m r
+purged_other m [] r h = refl
+purged_other m (x ∷ rs) r h =
+    let apart = or_false (same_digest r x) (among rs r) h in
+    ap (λ (k : Map). find k r) (changed_by_one m x (find m x) (purges (without m x) rs) refl)
+    ∙ purged_other (without m x) rs r apart.1 ∙ lookup-remove_other digest_total m x r (other_digest x r apart.0)
+
 not_twice : (b : Bool) (n : ℕ) → cond b 1 0 + n ≡ 0 → (b ≡ false) × (n ≡ 0)
 not_twice true n h = absurd (omega (arith, h))
 not_twice false n h = (refl, omega (arith, h))

@@ -146,6 +146,7 @@ module _ (n : Noted) (next : ℕ) (t new : Tables) (o o' : Owned) (s z w : Store
       moves = e.moves;
       grows = grows_so _ _ _ _ (λ d more h x y both. subst (λ (cs : List MapChange). LeavesThird d more x y (changed y cs)) (same_changes y) (h x y both)) e.grows;
       both = λ none x y h. subst (λ (cs : List MapChange). New y (changed y cs)) (same_changes y) (e.both none x y h);
+      shown = e.shown;
       number = e.number;
     }
 

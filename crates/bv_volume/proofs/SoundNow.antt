@@ -31,7 +31,7 @@ use Rattle.bv_store.specs.Shown.{HasRecords}
 use Rattle.bv_store.specs.Stored.{HasBlob, blob_record, blocks_on}
 use Rattle.bv_volume.specs.Contents.{HoldsIts, KeepsContents}
 use Rattle.bv_volume.specs.Located.{LiesBy, Located}
-use Rattle.bv_volume.specs.Seen.{HasBlobsNow, Seen}
+use Rattle.bv_volume.specs.Seen.{HasBlobsNow, HasTheMap, Opened, Seen}
 use Rattle.bv_volume.specs.Sound.{FoundAreSoundNow, PublishedAreSound, PublishedAreSoundNow}
 
 -- what was found has the root that was asked for
@@ -163,8 +163,16 @@ module _ (v : Seen) where
   over legal None opened now lie hold by = tt
   over legal (Some b) opened now lie hold by = on legal b v.store.told opened.1 now (lie opened.0 by) hold
 
+  -- the state's map is there, while no write or sync has failed
+  pub state_now : HasBlobsNow v → Opened v.store v.history → (last_state v.history v.next).stopped ≡ None → IfSome v.store.told Now
+  state_now shown opened going = go v.store.told (shown opened)
+    where
+      go : (o : Option Disk) → IfSome o (λ d. HasTheMap v.store.geometry v.store.placed (last_state v.history v.next) (now_of d)) → IfSome o Now
+      go None x = tt
+      go (Some d) x = subst (λ (m : Map). HasRecords v.store.geometry v.store.placed m (now_of d)) (x.going going) x.records
+
   pub sound_found : HasBlobsNow v → Legal v.history v.next → Located v.history v.store.geometry v.store.began v.store.told v.store.placed → KeepsContents v.history v.store.geometry v.store.told v.store.placed → FoundAreSoundNow v
-  sound_found shown legal located contents = λ opened going by. over legal v.store.began opened (shown opened going) located (contents by) by
+  sound_found shown legal located contents = λ opened going by. over legal v.store.began opened (state_now shown opened going) located (contents by) by
 
 pub sound_now : (g : Geometry) (placed : List (Digest × List ℕ)) (m : Map) (image : Blocks) (r : Digest) (blob : Blob) → HasRecords g placed m image → find m r ≡ Some blob → ((places : List ℕ) → find placed r ≡ Some places → HasBlob r blob (map (λ k. block image (block_at g k)) places)) → IsSound image r
 sound_now g placed m image r blob x has each =
@@ -182,7 +190,7 @@ sound_now g placed m image r blob x has each =
         blob_sound image g x.metadata r f blob x.geometry (found_root (records_of x.metadata) r f is) its (each (blocks_of f.extents) lies)
 
 pub published_now : (v : Seen) → HasBlobsNow v → PublishedAreSound v.history (last_state v.history v.next).map v.store → PublishedAreSoundNow v
-published_now v shown sound = λ opened going. go v.store.told (shown opened going) sound
+published_now v shown sound = λ opened going. go v.store.told (state_now v shown opened going) sound
   where
     go : (o : Option Disk) → IfSome o (λ d. HasRecords v.store.geometry v.store.placed (last_state v.history v.next).map (now_of d))
         → IfSome o (λ d. (r : Digest) (blob : Blob) (places : List ℕ) (w : Who) → publisher r None v.history.events ≡ Some w → find (last_state v.history v.next).map r ≡ Some blob → find v.store.placed r ≡ Some places → HasBlob r blob (blocks_on v.store.geometry d places))

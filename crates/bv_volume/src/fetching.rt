@@ -5,6 +5,7 @@ ghost use Rattle.spec_core.specs.Choice.{place_of};
 ghost use Rattle.spec_core.specs.History.{last_state};
 ghost use Rattle.spec_core.specs.State as C;
 ghost use Rattle.spec_tree.specs.Tree.{need_of, windows_of};
+ghost use Rattle.bv_fetch.specs.Reading.{AreOfBlobs};
 ghost use Rattle.bv_fetch.specs.Windows.{HasRoom};
 ghost use Rattle.bv_volume.specs.Events.{Does};
 ghost use Rattle.bv_volume.specs.Fetched.{Fetches, HasFetched, HoldsBlob, fetch_reply as reply_of};
@@ -66,6 +67,7 @@ fn read_from<S: Store>(
     requires window { raw.window < windows_of blob.size }
     requires need { length places.now ≡ need_of blob.version blob.size }
     requires within { All (λ b. b < (S.seen store.old).geometry.blocks) places.now }
+    requires blobs { AreOfBlobs (S.seen store.old) places.now }
     requires room { HasRoom blob.size raw.window raw }
     ensures { Fetches (S.seen store.old) (S.seen store.new) (S.both store.old) (S.both store.new)
         (S.held store.old) (S.held store.new) places.now blob raw.window result }

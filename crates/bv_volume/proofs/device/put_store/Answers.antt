@@ -1,4 +1,5 @@
 use Rattle.bv_volume.proofs.Counting.{rises_to, grows_so}
+use Rattle.bv_volume.proofs.Joins.{map_now}
 use Rattle.bv_volume.proofs.device.put_store.Goals as goal
 
 pub returns-in-Ok-clause-puts : goal.returns-in-Ok-clause-puts
@@ -8,6 +9,7 @@ returns-in-Ok-clause-puts g c =
       moves = record { geometry = e.counts.geometry; began = e.counts.began; calls = e.counts.calls; faults = (e.counts.faults.later, tt) };
       grows = grows_so _ _ _ _ (λ d more p. ((_, _, p.0), p.1)) e.grows;
       both = λ none. e.both;
+      shown = λ f failed. cc;
       number = e.number;
     }
 
@@ -27,5 +29,6 @@ returns-in-Err-clause-puts g c =
       moves = record { geometry = e.counts.geometry; began = e.counts.began; calls = e.counts.calls; faults = (e.counts.faults.later, rises_to _ _ _ e.counts.faults.later e.counts.faults.failed (rw c.faults.ensures at c.faults.type_inv) c.faults.ensures) };
       grows = grows_so _ _ _ _ (λ d more p. (tt, p.1)) e.grows;
       both = λ none. cc;
+      shown = λ f failed a b both. map_now (g.S.Store.seen c.args.store.now) (g.S.Store.seen c.put.new.self) b e.counts.geometry e.placed (e.shown a b both);
       number = e.number;
     }

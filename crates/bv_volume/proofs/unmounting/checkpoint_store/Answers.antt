@@ -1,4 +1,5 @@
 use Rattle.bv_volume.proofs.Counting.{rises_to, grows_so}
+use Rattle.bv_volume.proofs.Joins.{map_now}
 use Rattle.bv_volume.proofs.unmounting.checkpoint_store.Goals as goal
 
 pub returns-in-Ok-clause-ends : goal.returns-in-Ok-clause-ends
@@ -8,6 +9,7 @@ returns-in-Ok-clause-ends g c =
       moves = record { geometry = e.counts.geometry; began = e.counts.began; calls = e.counts.calls; faults = (e.counts.faults.later, tt) };
       grows = grows_so _ _ _ _ (λ d more p. (p.0, p.2)) e.grows;
       both = λ none. e.both;
+      shown = λ f failed. cc;
       number = e.number;
     }
 
@@ -18,6 +20,7 @@ returns-in-Err-clause-ends g c =
       moves = record { geometry = e.counts.geometry; began = e.counts.began; calls = e.counts.calls; faults = (e.counts.faults.later, rises_to _ _ _ e.counts.faults.later e.counts.faults.failed (rw c.faults.ensures at c.faults.type_inv) c.faults.ensures) };
       grows = grows_so _ _ _ _ (λ d more p. (tt, p.2)) e.grows;
       both = λ none. cc;
+      shown = λ f failed b both. map_now (g.S.Store.seen c.args.store.now) (g.S.Store.seen c.checkpoint.new.self) b e.counts.geometry e.placed (e.shown b b both);
       number = e.number;
     }
 

@@ -6,8 +6,10 @@ use Rattle.std.proofs.Common.{refl, ◌≤◌, ℕ, sym, subst, arith, List, suc
 use Rattle.std.specs.Prelude.{All}
 use Rattle.spec_core.specs.Choice.{place_of}
 use Rattle.spec_core.specs.declared.act.Act.TheVariants.{Fetch}
+use Rattle.bv_fetch.specs.Reading.{AreOfBlobs}
 use Rattle.bv_fetch.specs.Windows.{HasRoom}
 use Rattle.bv_volume.specs.Fetched.{Fetches, fetch_reply}
+use Rattle.bv_volume.proofs.Among.{of_blobs}
 use Rattle.bv_volume.proofs.Fetches.{blob_lies, blob_need_is, blocks_within, fetch_done, fetch_spaced, fetched_is, for_any, in_tables}
 use Rattle.bv_volume.proofs.Shown.{blobs_now}
 use Rattle.bv_volume.proofs.Silent.{CallDone}
@@ -32,6 +34,12 @@ read_from-answer-requires-clause-within g c =
     let s = g.S.Store.seen i.store in
     subst (λ (xs : List ℕ). All (λ b. suc b ≤ s.geometry.blocks) xs) (sym c.deref.ensures.value)
     (blocks_within i.history i.first i.ledger i.space s (g.S.Store.both i.store) (g.S.Store.held i.store) c.args.who c.args.slot c.args.root c.self.invariant.0 c.self.invariant.1 (rw (← c.self.view_is) at c.requires.held) c.in-Ok.prepared.places.items c.in-Ok.ensures.places c.owned_are_blocks.ensures)
+
+pub read_from-answer-requires-clause-blobs : goal.read_from-answer-requires-clause-blobs
+read_from-answer-requires-clause-blobs g c =
+    let s = g.S.Store.seen c.self.inside.store in
+    subst (λ (xs : List ℕ). AreOfBlobs s xs) (sym c.deref.ensures.value)
+    (of_blobs s.placed c.args.root c.in-Ok.prepared.places.items c.in-Ok.ensures.places)
 
 pub read_from-answer-requires-clause-room : goal.read_from-answer-requires-clause-room
 read_from-answer-requires-clause-room g c =

@@ -18,6 +18,7 @@ invariant_of-result g c =
         apart = omega arith;
         number = λ none. c.requires.number.1;
         safe = λ opened. fresh_told (g.S.Store.both c.args.store) s.told h c.args.first c.requires.fresh (c.requires.safe opened);
+        shown = λ opened f failed. cc;
       }),
       rw (c.new-ledger.ensures) (spaced_fresh h _ _ _ _ c.setting.ensures refl refl c.requires.space),
       ordered_fresh h c.args.space s c.requires.fresh c.geometry-counts.ensures.whole c.requires.located c.requires.contents,
