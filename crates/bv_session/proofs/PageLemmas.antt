@@ -1,5 +1,5 @@
 -- Pages that came of entries, while more entries are made.
-use Rattle.std.proofs.Common.{◌≡◌, ℕ, ◌<◌, List, [], ◌∷◌, ◌++◌, length, drop, set, refl, sym, ap, ◌∙◌, subst, inl, inr, arith, append_assoc, take_all}
+use Rattle.std.proofs.Common.{◌≡◌, ℕ, ◌<◌, List, [], ◌∷◌, ◌++◌, length, drop, set, refl, sym, ap, ◌∙◌, subst, inl, inr, arith, append_assoc}
 use Rattle.std.specs.Prelude.{Option, Some, None, IfSome, IsSomeAnd, replicate, slice_index_or}
 use Rattle.std.proofs.lemmas.Bool.{cases_eq, cases_lt}
 use Rattle.std.proofs.lemmas.List.{append-nil, drop_at, map-append, get_or-replicate, get_or-set_same, get_or-set_other, get_or_past, length-replicate}
@@ -7,7 +7,6 @@ use Rattle.spec_core.specs.declared.act.Act.{Act}
 use Rattle.spec_core.specs.declared.event.CoreEvent.{CoreEvent}
 use Rattle.spec_core.specs.declared.reply.Reply.{Reply}
 use Rattle.spec_core.specs.declared.who.Who.{Who}
-use Rattle.spec_disk.specs.declared.event.Event.{Event}
 use Rattle.spec_session.specs.Lines.{Move, Make}
 use Rattle.spec_session.specs.Own.{Named, slot_holds}
 use Rattle.spec_window.specs.Page.{Page}
@@ -15,7 +14,7 @@ use Rattle.bv_pager.specs.Reading.{Reading, known_at, with_page}
 use Rattle.bv_session.specs.declared.entry.Basis.{Basis}
 use Rattle.bv_session.specs.declared.entry.Entry.{Entry}
 use Rattle.bv_session.specs.declared.entry.Told.{Told}
-use Rattle.bv_session.specs.Disk.{IsPageOnDisk, IsPageThere, ReadsRight, ReadsRightThroughout, events_since}
+use Rattle.bv_session.specs.Disk.{IsPageOnDisk, IsPageThere}
 use Rattle.bv_session.specs.Events.{events_in}
 use Rattle.bv_session.specs.Pages.{Brings, Closes, From, GrowsOpen, IsKept, SameBut, SlotFrom, StaysOpen}
 use Rattle.bv_session.specs.Sessions.{Gains, Grows, Since}
@@ -105,12 +104,9 @@ with_told None x P Q f h = tt
 with_told (Some d) None P Q f h = h
 with_told (Some d) (Some t) P Q f h = f d t h
 
-right_last : (events : List Event) → ReadsRightThroughout events → ReadsRight events
-right_last events right = subst ReadsRight (take_all (length events) events (omega arith)) (right (length events))
-
 pub disk_there : (b : Basis) (blob : Named) (e : Entry) (p : Page) → IsPageOnDisk b blob e p → IsPageThere b blob e p
 disk_there b blob e p h =
-    with_told b.told e.told _ _ (λ d t on settled whole going right lines. on settled (right_last (events_since d t) right) lines) h
+    with_told b.told e.told _ _ (λ d t on settled whole lines. on settled lines) h
 
 module _ (b : Basis) (slot : ℕ) where
   -- a page keeps having come of the entries

@@ -1,7 +1,7 @@
 -- What the entries of a value say of its device, and of what was listed.
-use Rattle.std.specs.Prelude.{◌≡◌, ℕ, List, [], ◌∷◌, ◌++◌, map, length, take, drop, All, Option, Some, None, IfSome, IsSomeAnd, IsTrue}
+use Rattle.std.specs.Prelude.{◌≡◌, ℕ, List, [], ◌∷◌, ◌++◌, map, length, take, drop, All, Option, Some, None, IfSome, IsSomeAnd}
 use Rattle.spec_disk.specs.declared.event.Event.{Event}
-use Rattle.spec_disk.specs.Disk.{Blocks, block, now_after, reads_right}
+use Rattle.spec_disk.specs.Disk.{Blocks, block, now_after}
 use Rattle.spec_disk.specs.Images.{IsSettled}
 use Rattle.spec_image.specs.Chain.{BlobRecord}
 use Rattle.spec_image.specs.Stored.{fetched_bytes, fetched_path}
@@ -62,10 +62,6 @@ record_of root b = record {
   nodes = [];
 }
 
--- no block's last write failed with no Ok sync after it
-abbrev pub ReadsRight : List Event → Type 0
-ReadsRight events = (b : ℕ) → IsTrue (reads_right events b)
-
 -- the device's events since the opening by the end of an entry, where it told this then and then that
 abbrev pub events_since : Told → Told → List Event
 events_since opening told = drop (length opening.trace) told.trace
@@ -81,31 +77,26 @@ HasPage basis d t blob before page =
     (page.bytes ≡ fetched_bytes (record_of blob.0 b) blocks page.window)
     × (page.path ≡ fetched_path (record_of blob.0 b) blocks page.window))
 
--- A page of a blob is as the disk has it when this entry ends: where the device tells, was settled at
--- the opening and reads give what it has, and lines made the events.
+-- A page of a blob is as the disk has it when this entry ends: where the device tells and was settled
+-- at the opening, and lines made the events. Writes and syncs may have failed by then.
 abbrev pub IsPageOnDisk : Basis → Named → Entry → Page → Type 0
 IsPageOnDisk basis blob e page =
     IfSome basis.told (λ d. IsSomeAnd e.told (λ t.
-    IsSettled d.trace → ReadsRight (events_since d t) → AreByLine [] e.before
+    IsSettled d.trace → AreByLine [] e.before
     → HasPage basis d t blob e.before page))
 
 -- a window that was fetched by this entry is such a page
 abbrev pub IsOnDisk : Basis → Named → Entry → RawWindow → Type 0
 IsOnDisk basis blob e raw = IsPageOnDisk basis blob e (page_of blob.0 blob.1 raw)
 
--- none of the first of these events, however many, leaves a block whose last write failed
-abbrev pub ReadsRightThroughout : List Event → Type 0
-ReadsRightThroughout events = (n : ℕ) → ReadsRight (take n events)
-
 -- The same of a page that may have been kept since earlier events: where besides the disk had whole
--- blobs at the opening, nothing has stopped the volume, and no write has failed since.
+-- blobs at the opening.
 abbrev pub IsPageThere : Basis → Named → Entry → Page → Type 0
 IsPageThere basis blob e page =
     IfSome basis.told (λ d. IsSomeAnd e.told (λ t.
     IsSettled d.trace
     → HoldsWhole (now_after d.base d.trace) (opening_map (history_by basis []))
-    → (last_state (history_by basis (e.before ++ e.event ∷ [])) basis.next).stopped ≡ None
-    → ReadsRightThroughout (events_since d t) → AreByLine [] e.before
+    → AreByLine [] e.before
     → HasPage basis d t blob e.before page))
 
 -- each page that a reader knows is such a page of its blob
