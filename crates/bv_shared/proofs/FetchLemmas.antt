@@ -28,14 +28,13 @@ use Rattle.spec_session.specs.Own.{Named, slot_holds}
 use Rattle.spec_served.specs.Adds.{AreByLine}
 use Rattle.spec_served.specs.Places.{blocks_by, publisher}
 use Rattle.bv_device.specs.Told.{Disk, disk_with, now_of}
-use Rattle.bv_device.specs.Reads.{ReadsRight as DeviceReads}
 use Rattle.bv_fetch.specs.Windows.{Holds}
 use Rattle.bv_pager.specs.Reading.{FitsIn}
 use Rattle.bv_proof.specs.declared.raw.RawWindow.{RawWindow}
 use Rattle.bv_store.specs.Stored.{Grows, blocks_on}
 use Rattle.bv_session.specs.declared.serves.Answer.{Answer}
 use Rattle.bv_session.specs.declared.serves.Answer.TheVariants as answers
-use Rattle.bv_session.specs.Disk.{IsOnDisk, ReadsRight, blocks_at, events_since, record_of, told_after}
+use Rattle.bv_session.specs.Disk.{IsOnDisk, blocks_at, events_since, record_of, told_after}
 use Rattle.bv_session.specs.declared.entry.Entry.{Entry}
 use Rattle.bv_session.specs.Events.{IfDone, NotesAs, reply_by}
 use Rattle.spec_window.specs.Window.{window_bytes}
@@ -79,13 +78,13 @@ lies_by base events h root = blocks_by base events h.events root (publisher root
 -- the window is the blob's, where these are the device's events since
 abbrev pub FromThere : Blocks → History → ℕ → Digest → RawWindow → List Event → Type 0
 FromThere base h next root raw events =
-    ReadsRight events → AreByLine [] h.events
+    AreByLine [] h.events
     → IsSomeAnd (find (last_state h next).map root) (λ y. Gives root y raw (blocks_at (now_after base events) (lies_by base events h root)))
 
 on_disk : (h : History) (next : ℕ) (g : Geometry) (places : List ℕ) (root : Digest) (b : Blob) (raw : RawWindow) (began told : Option Disk) (calls : ℕ) → AreOfOneDisk began told → IfSome told (λ d. length d.trace ≡ calls)
     → find (last_state h next).map root ≡ Some b
     → IfSome began (λ x. IsSettled x.trace → AreByLine [] h.events → IfSome told (λ d. LiesBy g x d h root places))
-    → IfSome told (λ d. IfSome began (λ x. IsSettled x.trace) → DeviceReads d → Holds g places b raw d)
+    → IfSome told (λ d. IfSome began (λ x. IsSettled x.trace) → Holds g places b raw d)
     → IfSome (told_of began) (λ d. IsSomeAnd (told_after (told_of began) (device_events told) calls) (λ t. IsSettled d.trace → FromThere (now_after d.base d.trace) h next root raw (events_since d t)))
 on_disk h next g places root b raw None told calls disk counted has by sees = tt
 on_disk h next g places root b raw (Some x) None calls disk counted has by sees = absurd disk
@@ -93,8 +92,8 @@ on_disk h next g places root b raw (Some x) (Some d) calls disk counted has by s
     let all : take calls d.trace ≡ d.trace = take_all calls d.trace (omega (arith, counted)) in
     let since : drop (length x.trace) (x.trace ++ take calls d.trace) ≡ d.trace = drop_at x.trace (take calls d.trace) (length x.trace) refl ∙ all in
     subst (FromThere (now_of x) h next root raw) (sym since)
-    (λ right lines.
-    let there = gives_by g places root b raw x d disk (sees settled right) in
+    (λ lines.
+    let there = gives_by g places root b raw x d disk (sees settled) in
     let here : Gives root b raw (blocks_at (now_after (now_of x) d.trace) (lies_by (now_of x) d.trace h root)) = subst (λ (ps : List ℕ). Gives root b raw (blocks_at (now_after (now_of x) d.trace) ps)) (by settled lines) there in
     subst (λ (o : Option Blob). IsSomeAnd o (λ y. Gives root y raw (blocks_at (now_after (now_of x) d.trace) (lies_by (now_of x) d.trace h root)))) (sym has) here)
 

@@ -1,7 +1,7 @@
 -- The pages that a session's slot has, by the entries of which they came.
-use Rattle.std.proofs.Common.{◌≡◌, ℕ, ◌==◌, Bool, true, false, cond, Option, Some, None, List, [], ◌∷◌, ◌++◌, length, take, drop, refl, sym, ap, ◌∙◌, subst, append_assoc, eq-eqb}
+use Rattle.std.proofs.Common.{◌≡◌, ℕ, ◌==◌, Bool, true, false, cond, Option, Some, None, List, [], ◌∷◌, ◌++◌, length, take, refl, sym, ap, ◌∙◌, subst, append_assoc, eq-eqb, inr}
 use Rattle.std.specs.Prelude.{All, IfSome, IsSomeAnd}
-use Rattle.std.proofs.lemmas.List.{drop_at, take-append-drop}
+use Rattle.std.proofs.lemmas.List.{drop_at}
 use Rattle.std.proofs.lemmas.List.Elements.{All-cons, All-head, All-nil, All-tail, filter-append}
 use Rattle.spec_disk.specs.Disk.{now_after}
 use Rattle.spec_disk.specs.Images.{IsSettled}
@@ -29,19 +29,18 @@ use Rattle.bv_pager.specs.Reading.{Reading, known_at}
 use Rattle.bv_session.specs.declared.entry.Basis.{Basis}
 use Rattle.bv_session.specs.declared.entry.Entry.{Entry}
 use Rattle.bv_session.specs.declared.entry.Told.{Told}
-use Rattle.bv_session.specs.Disk.{EachTells, HasPage, ReadsRightThroughout, events_since, told_after}
+use Rattle.bv_session.specs.Disk.{EachTells, HasPage, events_since, told_after}
 use Rattle.bv_session.specs.Events.{events_in}
 use Rattle.bv_session.specs.Pages.{Closes, From, SlotFrom, StaysOpen}
 use Rattle.bv_turn.specs.Entries.{entries_of}
 use Rattle.bv_volume.specs.Seen.{Seen}
 use Rattle.bv_shared.specs.Entries.{basis_of, device_events, entries_in, told_of}
 use Rattle.bv_shared.specs.KeptPages.{HasIts, ReaderHas}
-use Rattle.bv_shared.specs.Moments.{BeganWhole, HasItsBlob, there_at}
+use Rattle.bv_shared.specs.Moments.{BeganWhole, HasItsBlob, IsSure, there_at}
 use Rattle.bv_shared.specs.ServeLaws.{afters, history_is, tells}
 use Rattle.bv_shared.specs.Since.{Since}
 use Rattle.bv_shared.proofs.HeldLemmas.{GivenBy, HeldAt, held_at, page_held}
-use Rattle.bv_shared.proofs.KeptLemmas.{right_before}
-use Rattle.bv_shared.proofs.StayLemmas.{going_then, legal_then}
+use Rattle.bv_shared.proofs.StayLemmas.{legal_then}
 
 -- ---- a session's entries among all
 
@@ -198,37 +197,38 @@ module _ (o v : Seen) (since : Since o v) (legal : Legal v.history v.next) (faul
         ∙ ap (λ (x : Option Disk). told_after (told_of x) (device_events v.store.told) f.entry.event.calls) is_b
         ∙ ap (λ (x : Option Disk). told_after (told_of (Some b)) (device_events x) f.entry.event.calls) is_d
 
+    -- what the disk had of blobs as the entry ended
+    abbrev Had : Disk → Disk → ℕ → Type 0
+    Had z y calls = (r : Digest) (x : Blob) → find (last_state (up_to h past) v.next).map r ≡ Some x → IsSure (last_state (up_to h past) v.next) r → HasItsBlob (now_of z) (take calls y.trace) past r x
+
     -- the page has what its blob's blocks are to hold now
-    from_has : (b d : Disk) → v.store.began ≡ Some b → v.store.told ≡ Some d → IsSettled b.trace → HoldsWhole (now_of b) (opening_map h) → (last_state h v.next).stopped ≡ None
-        → ReadsRightThroughout d.trace → AreByLine [] h.events → HasIts (now_of b) d.trace h h.events root size p
-    from_has b d is_b is_d settled whole going right lined =
+    from_has : (b d : Disk) → v.store.began ≡ Some b → v.store.told ≡ Some d → IsSettled b.trace → HoldsWhole (now_of b) (opening_map h)
+        → AreByLine [] h.events → HasIts (now_of b) d.trace h h.events root size p
+    from_has b d is_b is_d settled whole lined =
         let calls : ℕ = f.entry.event.calls in
         let now : Legal (up_to h (past ++ more)) v.next = subst (λ (es : List CoreEvent). Legal (up_to h es) v.next) parts legal in
         let then_legal : Legal (up_to h past) v.next = legal_then h v.next past more now in
         let by : AreByLine [] (past ++ more) = subst (AreByLine []) parts lined in
         let by_past : AreByLine [] past = front_by [] past more by in
-        let went : (last_state (up_to h past) v.next).stopped ≡ None = going_then h v.next past more (subst (λ (es : List CoreEvent). (last_state (up_to h es) v.next).stopped ≡ None) parts going) in
         let mounted = mounted_both past more (subst AreMounted parts since.2) in
         let has : HeldAt (now_of b) h v.next past s slot root size = held_at (now_of b) h v.next past s slot root size then_legal mounted.0 whole.is (ap (slot_holds slot) own_past ∙ f.held) in
         let began : BeganWhole v.store.began h = subst (λ (x : Option Disk). BeganWhole x h) (sym is_b) (settled, whole) in
         let its : HasItsBlob (now_of b) (take calls d.trace) past root has.blob =
-        some_of v.store.told d (λ y. (r : Digest) (x : Blob) → find (last_state (up_to h past) v.next).map r ≡ Some x → HasItsBlob (now_of b) (take calls y.trace) past r x) is_d
-        (some_of v.store.began b (λ z. IfSome v.store.told (λ y. (r : Digest) (x : Blob) → find (last_state (up_to h past) v.next).map r ≡ Some x → HasItsBlob (now_of z) (take calls y.trace) past r x)) is_b
-        (since.4 f.entry.before f.entry.event more all_events began went by_past)) root has.blob has.found in
-        let right_then : ReadsRightThroughout (take calls d.trace) = right_before (take calls d.trace) (drop calls d.trace) (subst ReadsRightThroughout (sym (take-append-drop calls d.trace)) right) in
+        some_of v.store.told d (λ y. Had b y calls) is_d (some_of v.store.began b (λ z. IfSome v.store.told (λ y. Had z y calls)) is_b (since.4 f.entry.before f.entry.event more all_events began by_past))
+        root has.blob has.found (inr has.unqueued) in
         let page : GivenBy h v.next f.entry.before root (there_at (now_of b) (take calls d.trace) f.entry.before root) p =
         subst (λ (ts : List Event). GivenBy h v.next f.entry.before root (there_at (now_of b) ts f.entry.before root) p) (since_is b (take calls d.trace))
-        (some_and f.entry.told (told_by b (take calls d.trace)) (λ t. IsSettled b.trace → HoldsWhole (now_of b) (opening_map h) → (last_state (up_to h past) v.next).stopped ≡ None → ReadsRightThroughout (events_since (began_as b) t) → AreByLine [] f.entry.before → HasPage basis (began_as b) t (root, size) f.entry.before p) (told_then b d is_b is_d)
-        (some_of (told_of v.store.began) (began_as b) (λ x. IsSomeAnd f.entry.told (λ t. IsSettled x.trace → HoldsWhole (now_after x.base x.trace) (opening_map h) → (last_state (up_to h past) v.next).stopped ≡ None → ReadsRightThroughout (events_since x t) → AreByLine [] f.entry.before → HasPage basis x t (root, size) f.entry.before p)) (ap told_of is_b) f.there)
-        settled whole went (subst ReadsRightThroughout (sym (since_is b (take calls d.trace))) right_then) (front_by [] f.entry.before (f.entry.event ∷ []) by_past)) in
+        (some_and f.entry.told (told_by b (take calls d.trace)) (λ t. IsSettled b.trace → HoldsWhole (now_of b) (opening_map h) → AreByLine [] f.entry.before → HasPage basis (began_as b) t (root, size) f.entry.before p) (told_then b d is_b is_d)
+        (some_of (told_of v.store.began) (began_as b) (λ x. IsSomeAnd f.entry.told (λ t. IsSettled x.trace → HoldsWhole (now_after x.base x.trace) (opening_map h) → AreByLine [] f.entry.before → HasPage basis x t (root, size) f.entry.before p)) (ap told_of is_b) f.there)
+        settled whole (front_by [] f.entry.before (f.entry.event ∷ []) by_past)) in
         subst (λ (es : List CoreEvent). HasIts (now_of b) d.trace h es root size p) (sym parts)
         (page_held (now_of b) d.trace h v.next f.entry.before f.entry.event s slot root size f.brings then_legal has its more now by (none_empties s slot place.last mounted.1 (subst (StaysOpen slot) (sym place.own_last) f.stays)) p page)
 
   -- what a reader of the slot knows are pages that its blob is to have
   pub reader_has : (r : Reading) → SlotFrom basis slot r (entries_of session_of s (entries_in v)) → ReaderHas v r
   reader_has r pages =
-      if_some v.store.began (λ b. IfSome v.store.told (λ d. IsSettled b.trace → HoldsWhole (now_of b) (opening_map h) → (last_state h v.next).stopped ≡ None → ReadsRightThroughout d.trace → AreByLine [] h.events
+      if_some v.store.began (λ b. IfSome v.store.told (λ d. IsSettled b.trace → HoldsWhole (now_of b) (opening_map h) → AreByLine [] h.events
       → (w : ℕ) (p : Page) → known_at r w ≡ Some p → HasIts (now_of b) d.trace h h.events r.root r.size p))
-      (λ b is_b. if_some v.store.told (λ d. IsSettled b.trace → HoldsWhole (now_of b) (opening_map h) → (last_state h v.next).stopped ≡ None → ReadsRightThroughout d.trace → AreByLine [] h.events
+      (λ b is_b. if_some v.store.told (λ d. IsSettled b.trace → HoldsWhole (now_of b) (opening_map h) → AreByLine [] h.events
       → (w : ℕ) (p : Page) → known_at r w ≡ Some p → HasIts (now_of b) d.trace h h.events r.root r.size p)
-      (λ d is_d settled whole going right lined w p known. from_has r.root r.size p (pages w p known) b d is_b is_d settled whole going right lined))
+      (λ d is_d settled whole lined w p known. from_has r.root r.size p (pages w p known) b d is_b is_d settled whole lined))

@@ -10,15 +10,17 @@ use Rattle.spec_tree.specs.declared.blob.Blob.{Blob}
 use Rattle.spec_image.specs.Volume.{blobs}
 use Rattle.spec_window.specs.Page.{Page}
 use Rattle.spec_core.proofs.Histories.{last_calls-push}
+use Rattle.spec_core.proofs.Holding.{held_roots_stay}
 use Rattle.spec_core.specs.History.{History, Legal, first_state, last_state, opening_map, setting_of}
 use Rattle.spec_core.specs.Laws.{Empties}
-use Rattle.spec_core.specs.State.{State, find, held}
+use Rattle.spec_core.specs.State.{State, among, find, held}
 use Rattle.spec_core.specs.Step.{after}
 use Rattle.spec_core.specs.declared.act.Act.{Act}
 use Rattle.spec_core.specs.declared.act.Act.TheVariants as acts
 use Rattle.spec_core.specs.declared.event.CoreEvent.{CoreEvent}
 use Rattle.spec_core.specs.declared.reply.Reply.{Reply}
 use Rattle.spec_core.specs.declared.reply.Reply.TheVariants as replies
+use Rattle.spec_core.specs.declared.place.Place.{Place}
 use Rattle.spec_core.specs.declared.setting.Setting.{Setting}
 use Rattle.spec_core.specs.declared.who.Who.{Who}
 use Rattle.spec_crash.specs.Timing.{event_at}
@@ -34,6 +36,7 @@ use Rattle.spec_session.specs.Conform.{events_of}
 use Rattle.spec_session.specs.Own.{Named, slot_holds}
 use Rattle.spec_session.specs.Told.{same_who}
 use Rattle.bv_session.specs.Pages.{Brings}
+use Rattle.bv_volume.proofs.Fetches.{held_here}
 use Rattle.bv_volume.proofs.Located.{and_false, publisher_push, unpublished}
 use Rattle.bv_shared.specs.KeptPages.{HasIts, IsGiven}
 use Rattle.bv_shared.specs.Moments.{HasItsBlob, held_by, there_at}
@@ -84,6 +87,12 @@ module _ (es : List CoreEvent) (e : CoreEvent) (published : was_published e.act 
 
 -- ---- what a slot holds
 
+-- a root that a slot holds isn't queued
+pub held_unqueued : (h : History) (next : ℕ) (events : List CoreEvent) (p : Place) (root : Digest) → Legal (up_to h events) next → held (last_state (up_to h events) next).slots p ≡ Some root
+    → among (last_state (up_to h events) next).queue root ≡ false
+held_unqueued h next events p root legal there =
+    (held_roots_stay (up_to h events) next root legal (held_here (last_state (up_to h events) next).slots p root there)).1
+
 -- after these events a session's slot holds a blob of the map
 pub record HeldAt (base : Blocks) (h : History) (next : ℕ) (events : List CoreEvent) (s slot : ℕ) (root : Digest) (size : ℕ) : Type 0 where
   pub there : held (last_state (up_to h events) next).slots (slot_of s slot) ≡ Some root
@@ -91,6 +100,7 @@ pub record HeldAt (base : Blocks) (h : History) (next : ℕ) (events : List Core
   pub found : find (last_state (up_to h events) next).map root ≡ Some blob
   pub of_size : blob.size ≡ size
   pub version : blob.version ≡ version_by base h root (publisher root None events)
+  pub unqueued : among (last_state (up_to h events) next).queue root ≡ false
 
 named_size : Option Named → ℕ
 named_size None = 0
@@ -102,7 +112,7 @@ module _ (base : Blocks) (h : History) (next : ℕ) (events : List CoreEvent) (s
   unfolding named_size
   by_map None found legal opens is there k = absurd k
   by_map (Some blob) found legal opens is there k =
-      record { there = there; blob = blob; found = found; of_size = ap named_size (sym k ∙ is); version = map_versions base (up_to h events) next root blob legal opens found }
+      record { there = there; blob = blob; found = found; of_size = ap named_size (sym k ∙ is); version = map_versions base (up_to h events) next root blob legal opens found; unqueued = held_unqueued h next events (slot_of s slot) root legal there }
 
   -- what it holds by its session's own events
   pub held_at : Legal (up_to h events) next → AreMounted events → blobs base ≡ Some (opening_map h) → slot_holds slot (events_of s events) ≡ Some (root, size) → HeldAt base h next events s slot root size

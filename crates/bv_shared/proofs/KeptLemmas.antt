@@ -1,8 +1,7 @@
 -- What is kept of closed blobs: as readers are kept and taken out, and from one event to the next.
-use Rattle.std.proofs.Common.{◌≡◌, ◌⊎◌, ℕ, zero, suc, Bool, true, false, cond, min, Option, Some, None, List, [], ◌∷◌, ◌++◌, length, take, refl, sym, ap, ◌∙◌, subst, arith, is_some}
+use Rattle.std.proofs.Common.{◌≡◌, ◌⊎◌, ℕ, zero, suc, Bool, true, false, cond, Option, Some, None, List, [], ◌∷◌, ◌++◌, length, take, refl, sym, ap, ◌∙◌, subst, arith, is_some}
 use Rattle.std.specs.Prelude.{IfSome, option_and_then, slice_get, ◌-◌}
 use Rattle.std.specs.Map.{lookup, remove_entry}
-use Rattle.std.proofs.lemmas.List.{take-append-le, take_min}
 use Rattle.std.proofs.lemmas.Slice.Eq.{bytes_eq-Decides}
 use Rattle.spec_disk.specs.declared.event.Event.{Event}
 use Rattle.spec_tree.specs.Order.{same_digest}
@@ -22,7 +21,6 @@ use Rattle.spec_served.specs.Places.{publisher, publisher_after, version_by}
 use Rattle.bv_cache.specs.Kept.{is_root, kept_first}
 use Rattle.bv_device.specs.Told.{Disk, now_of}
 use Rattle.bv_pager.specs.Reading.{Reading}
-use Rattle.bv_session.specs.Disk.{ReadsRight, ReadsRightThroughout}
 use Rattle.bv_store.specs.Stored.{Grows}
 use Rattle.bv_volume.proofs.Located.{publisher_push, unpublished}
 use Rattle.bv_volume.specs.Events.{Does, Happens, event_of}
@@ -30,7 +28,7 @@ use Rattle.bv_volume.specs.Seen.{Seen}
 use Rattle.bv_shared.specs.KeptPages.{AreKept, HasIts, HasNone, kept_after, last_settled, settled_by, IsGiven, KeptPages, ReaderHas, ReaderHasBy}
 use Rattle.bv_shared.specs.Moments.{held_by}
 use Rattle.bv_shared.specs.Since.{AreWithin, EndBy}
-use Rattle.bv_shared.proofs.StayLemmas.{going_then, held_grows, held_push}
+use Rattle.bv_shared.proofs.StayLemmas.{held_grows, held_push}
 
 -- ---- roots
 
@@ -120,24 +118,19 @@ kept_others P Q root (x ∷ xs) none step k =
 
 -- ---- one event more
 
--- what reads right throughout did so before
-pub right_before : (told more : List Event) → ReadsRightThroughout (told ++ more) → ReadsRightThroughout told
-right_before told more right n =
-    subst ReadsRight (take-append-le (min n (length told)) told more (omega arith) ∙ take_min n told) (right (min n (length told)))
-
 module _ (act : Act) (reply : Reply) (who : Who) (calls : ℕ) where
   abbrev event : CoreEvent
   event = event_of who act reply calls
 
-  reader_push : (began o new : Option Disk) (h : History) (next : ℕ) (P : Disk → List Event → Type 0) (r : Reading) → Grows o new P → IfSome o (λ d. EndBy (length d.trace) h.events)
-      → ((last : Option Who) → publisher_after r.root last who act reply ≡ last) → ReaderHasBy began o h next r → ReaderHasBy began new (with_event h event) next r
-  reader_push None o new h next P r grows within stays has = tt
-  reader_push (Some b) None new h next P r grows within stays has = subst (λ (x : Option Disk). ReaderHasBy (Some b) x (with_event h event) next r) (sym grows) tt
-  reader_push (Some b) (Some d) new h next P r grows within stays has =
-      subst (λ (x : Option Disk). ReaderHasBy (Some b) x (with_event h event) next r) (sym grows.1)
-      (λ settled whole going right lined w p known.
+  reader_push : (began o new : Option Disk) (h : History) (P : Disk → List Event → Type 0) (r : Reading) → Grows o new P → IfSome o (λ d. EndBy (length d.trace) h.events)
+      → ((last : Option Who) → publisher_after r.root last who act reply ≡ last) → ReaderHasBy began o h r → ReaderHasBy began new (with_event h event) r
+  reader_push None o new h P r grows within stays has = tt
+  reader_push (Some b) None new h P r grows within stays has = subst (λ (x : Option Disk). ReaderHasBy (Some b) x (with_event h event) r) (sym grows) tt
+  reader_push (Some b) (Some d) new h P r grows within stays has =
+      subst (λ (x : Option Disk). ReaderHasBy (Some b) x (with_event h event) r) (sym grows.1)
+      (λ settled whole lined w p known.
       let before : HasIts (now_of b) d.trace h h.events r.root r.size p =
-      has settled whole (going_then h next h.events (event ∷ []) going) (right_before d.trace grows.0 right) (front_by [] h.events (event ∷ []) lined) w p known in
+      has settled whole (front_by [] h.events (event ∷ []) lined) w p known in
       let who_was = publisher r.root None h.events in
       let same : publisher r.root None (h.events ++ event ∷ []) ≡ who_was = publisher_push r.root None h.events event ∙ stays who_was in
       let blocks : held_by (now_of b) (d.trace ++ grows.0) (h.events ++ event ∷ []) r.root who_was ≡ held_by (now_of b) d.trace h.events r.root who_was =
@@ -149,10 +142,9 @@ module _ (v w : Seen) (within : AreWithin v) (who : Who) (act : Act) where
   -- a reader's pages stay over an event that doesn't publish its root
   pub reader_stays : (reply : Reply) → Happens v w who act reply → (r : Reading) → ((last : Option Who) → publisher_after r.root last who act reply ≡ last) → ReaderHas v r → ReaderHas w r
   reader_stays reply happens r stays has =
-      subst (λ (b : Option Disk). ReaderHasBy b w.store.told w.history w.next r) (sym happens.began)
-      (subst (λ (n : ℕ). ReaderHasBy v.store.began w.store.told w.history n r) (sym happens.next)
-      (subst (λ (h : History). ReaderHasBy v.store.began w.store.told h v.next r) (sym happens.history)
-      (reader_push act reply who w.store.calls v.store.began v.store.told w.store.told v.history v.next (λ d more. (more ≡ []) ⊎ MayCall act) r happens.told within stays has)))
+      subst (λ (b : Option Disk). ReaderHasBy b w.store.told w.history r) (sym happens.began)
+      (subst (λ (h : History). ReaderHasBy v.store.began w.store.told h r) (sym happens.history)
+      (reader_push act reply who w.store.calls v.store.began v.store.told w.store.told v.history (λ d more. (more ≡ []) ⊎ MayCall act) r happens.told within stays has))
 
   -- so does all that is kept over one that publishes nothing
   pub pages_by : (q : Option Reply) (kept : List (Digest × Reading)) → Does v w who act q → ((reply : Reply) → was_published act reply ≡ false) → KeptPages v kept → KeptPages w kept

@@ -17,7 +17,7 @@ use Rattle.spec_image.specs.Stored.{blocks_of}
 use Rattle.spec_image.specs.Volume.{blob_in, metadata_of}
 use Rattle.spec_image.specs.WellFormed.{records_of}
 use Rattle.spec_core.specs.History.{History, last_state}
-use Rattle.spec_core.specs.State.{find}
+use Rattle.spec_core.specs.State.{State, among, find}
 use Rattle.spec_core.specs.declared.act.Act.{Act}
 use Rattle.spec_core.specs.declared.event.CoreEvent.{CoreEvent}
 use Rattle.spec_core.specs.declared.reply.Reply.{Reply}
@@ -33,8 +33,8 @@ use Rattle.bv_store.specs.Stored.{Grows, HasBlob, blocks_on}
 use Rattle.bv_volume.specs.Contents.{HoldsIts, KeepsContents, contents_at}
 use Rattle.bv_volume.specs.Events.{Does, Happens, event_of}
 use Rattle.bv_volume.specs.Located.{Located}
-use Rattle.bv_volume.specs.Seen.{Seen}
-use Rattle.bv_shared.specs.Moments.{BeganWhole, ContentsVerify, HasItsBlob, HasNow, Moment, Moments, held_by, image_has, image_size, record_size, there_at}
+use Rattle.bv_volume.specs.Seen.{HasTheMap, Seen}
+use Rattle.bv_shared.specs.Moments.{BeganWhole, ContentsVerify, HasItsBlob, HasNow, IsSure, Moment, Moments, held_by, image_has, image_size, record_size, there_at}
 use Rattle.bv_shared.specs.Since.{AreOfOneDisk, AreWithin, EndBy}
 
 -- ---- what a volume says of its disk now
@@ -84,13 +84,14 @@ module _ (g : Geometry) (d : Disk) (h : History) (root : Digest) (blob : Blob) (
   verify None is sound some = absurd (cc)
   verify (Some w) is sound some = subst (ContentsVerify root blob.size blob.version) (sym same_there) (sound w is).sound
 
-module _ (g : Geometry) (placed : List (Digest × List ℕ)) (d : Disk) (h : History) (m : Map)
+-- the disk's map `m` has a blob of the state's map `t`
+module _ (g : Geometry) (placed : List (Digest × List ℕ)) (d : Disk) (h : History) (m t : Map)
     (lies : (r : Digest) (places : List ℕ) → find placed r ≡ Some places → Lies g d h r places) (records : HasRecords g placed m (now_of d))
-    (sound : (r : Digest) (blob : Blob) (places : List ℕ) (w : Who) → publisher r None h.events ≡ Some w → find m r ≡ Some blob → find placed r ≡ Some places → HasBlob r blob (blocks_on g d places))
+    (sound : (r : Digest) (blob : Blob) (places : List ℕ) (w : Who) → publisher r None h.events ≡ Some w → find t r ≡ Some blob → find placed r ≡ Some places → HasBlob r blob (blocks_on g d places))
     (holds : (r : Digest) (places : List ℕ) → find placed r ≡ Some places → HoldsIts g d h places (publisher r None h.events)) where
-  has_its : (root : Digest) (blob : Blob) → find m root ≡ Some blob → HasItsBlob d.base d.trace h.events root blob
-  has_its root blob has =
-      let k : Recorded g placed (now_of d) root blob = recorded g placed m (now_of d) root blob records has in
+  has_its : (root : Digest) (blob : Blob) → find t root ≡ Some blob → find m root ≡ find t root → HasItsBlob d.base d.trace h.events root blob
+  has_its root blob has same =
+      let k : Recorded g placed (now_of d) root blob = recorded g placed m (now_of d) root blob records (same ∙ has) in
       let places : List ℕ = blocks_of k.found.extents in
       let here : Lies g d h root places = lies root places k.lies in (
         ap (image_has root) k.is ∙ ap (λ (o : Option BlobRecord). is_some o) k.there,
@@ -106,23 +107,31 @@ module _ (g : Geometry) (placed : List (Digest × List ℕ)) (d : Disk) (h : His
 -- each blob of the map, by what was told
 abbrev AllHave : Disk → Option Disk → History → ℕ → ℕ → Type 0
 AllHave b told h next calls =
-    IfSome told (λ d. (root : Digest) (blob : Blob) → find (last_state h next).map root ≡ Some blob → HasItsBlob (now_of b) (take calls d.trace) h.events root blob)
+    IfSome told (λ d. (root : Digest) (blob : Blob) → find (last_state h next).map root ≡ Some blob → IsSure (last_state h next) root → HasItsBlob (now_of b) (take calls d.trace) h.events root blob)
+
+-- the disk's map and the state's agree on such a blob
+agree : (g : Geometry) (placed : List (Digest × List ℕ)) (s : State) (image : Blocks) (root : Digest) (k : HasTheMap g placed s image) → IsSure s root → find k.map root ≡ find s.map root
+agree g placed s image root k sure = elim sure [
+  | inl none ↦ ap (λ (x : Map). find x root) (k.going none)
+  | inr unqueued ↦ k.agrees root unqueued
+]
 
 module _ (g : Geometry) (placed : List (Digest × List ℕ)) (h : History) (next calls : ℕ) where
-  by_disks : (began told : Option Disk) → AreOfOneDisk began told → Located h g began told placed → (BeganWhole began h → (last_state h next).stopped ≡ None → IfSome told (λ d. HasRecords g placed (last_state h next).map (now_of d)))
+  by_disks : (began told : Option Disk) → AreOfOneDisk began told → Located h g began told placed → (BeganWhole began h → IfSome told (λ d. HasTheMap g placed (last_state h next) (now_of d)))
       → IfSome told (λ d. (r : Digest) (blob : Blob) (places : List ℕ) (w : Who) → publisher r None h.events ≡ Some w → find (last_state h next).map r ≡ Some blob → find placed r ≡ Some places → HasBlob r blob (blocks_on g d places))
       → KeepsContents h g told placed → IfSome told (λ d. length d.trace ≡ calls)
-      → BeganWhole began h → (last_state h next).stopped ≡ None → AreByLine [] h.events → IfSome began (λ b. AllHave b told h next calls)
-  by_disks None told disk located shown sound contents counted whole going lined = tt
-  by_disks (Some b) None disk located shown sound contents counted whole going lined = absurd disk
-  by_disks (Some b) (Some d) disk located shown sound contents counted whole going lined =
+      → BeganWhole began h → AreByLine [] h.events → IfSome began (λ b. AllHave b told h next calls)
+  by_disks None told disk located shown sound contents counted whole lined = tt
+  by_disks (Some b) None disk located shown sound contents counted whole lined = absurd disk
+  by_disks (Some b) (Some d) disk located shown sound contents counted whole lined =
       let lies : (r : Digest) (places : List ℕ) → find placed r ≡ Some places → Lies g d h r places =
       λ r places is. subst (λ (x : Blocks). map (block_at g) places ≡ blocks_by x d.trace h.events r (publisher r None h.events)) (sym disk) (located whole.0 lined r places is) in
       let all : take calls d.trace ≡ d.trace = take_all calls d.trace (omega (arith, counted)) in
-      λ root blob has.
+      let m : HasTheMap g placed (last_state h next) (now_of d) = shown whole in
+      λ root blob has sure.
       subst (λ (ts : List Event). HasItsBlob (now_of b) ts h.events root blob) (sym all)
       (subst (λ (x : Blocks). HasItsBlob x d.trace h.events root blob) disk
-      (has_its g placed d h (last_state h next).map lies (shown whole going) sound (contents lined) root blob has))
+      (has_its g placed d h m.map (last_state h next).map lies m.records sound (contents lined) root blob has (agree g placed (last_state h next) (now_of d) root m sure)))
 
 -- a volume has each blob of the map once its last event has ended
 pub moment_now : (v : Seen) → HasNow v → AreOfOneDisk v.store.began v.store.told → Moment v.store.began v.store.told v.history v.next v.history.events v.store.calls
@@ -154,8 +163,8 @@ moment_stays : (began o new : Option Disk) (P : Disk → List Event → Type 0) 
 moment_stays began None new P h next events calls grows within k = subst (λ (x : Option Disk). Moment began x h next events calls) (sym grows) k
 moment_stays began (Some d) new P h next events calls grows within k =
     subst (λ (x : Option Disk). Moment began x h next events calls) (sym grows.1)
-    (λ whole going lined. subst (λ (ts : List Event). IfSome began (λ b. (root : Digest) (blob : Blob) → find (last_state (up_to h events) next).map root ≡ Some blob → HasItsBlob (now_of b) ts events root blob))
-    (sym (take-append-le calls d.trace grows.0 within)) (k whole going lined))
+    (λ whole lined. subst (λ (ts : List Event). IfSome began (λ b. (root : Digest) (blob : Blob) → find (last_state (up_to h events) next).map root ≡ Some blob → IsSure (last_state (up_to h events) next) root → HasItsBlob (now_of b) ts events root blob))
+    (sym (take-append-le calls d.trace grows.0 within)) (k whole lined))
 
 within_then : (o : Option Disk) (before : List CoreEvent) (x : CoreEvent) (more : List CoreEvent) → IfSome o (λ d. EndBy (length d.trace) (before ++ x ∷ more)) → IfSome o (λ d. x.calls ≤ length d.trace)
 within_then None before x more k = tt

@@ -1,5 +1,5 @@
 -- What an open hands out of what is kept.
-use Rattle.std.proofs.Common.{◌≡◌, ℕ, ◌==◌, Bool, cond, Option, Some, None, List, [], ◌∷◌, ◌++◌, length, take, take_all, refl, sym, ap, ◌∙◌, subst, arith, append_assoc, eq-eqb}
+use Rattle.std.proofs.Common.{◌≡◌, ℕ, ◌==◌, Bool, cond, Option, Some, None, List, [], ◌∷◌, ◌++◌, length, take, take_all, refl, sym, ap, ◌∙◌, subst, arith, append_assoc, eq-eqb, inr}
 use Rattle.std.specs.Prelude.{IfSome, IsSomeAnd, Result, Ok, Err}
 use Rattle.std.proofs.lemmas.List.Elements.{filter-append}
 use Rattle.std.proofs.lemmas.List.{append-nil}
@@ -8,7 +8,7 @@ use Rattle.spec_disk.specs.Images.{IsSettled}
 use Rattle.spec_disk.specs.declared.event.Event.{Event}
 use Rattle.spec_tree.specs.declared.Digest.{Digest}
 use Rattle.spec_window.specs.Page.{Page}
-use Rattle.spec_core.specs.History.{History, Legal, last_state, opening_map, with_event}
+use Rattle.spec_core.specs.History.{History, Legal, opening_map, with_event}
 use Rattle.spec_core.specs.declared.act.Act.{Act}
 use Rattle.spec_core.specs.declared.act.Act.TheVariants as acts
 use Rattle.spec_core.specs.declared.event.CoreEvent.{CoreEvent}
@@ -26,7 +26,7 @@ use Rattle.bv_ledger.specs.declared.opening.OpenFault.{OpenFault}
 use Rattle.bv_ledger.specs.declared.opening.OpenFault.TheVariants as opening
 use Rattle.bv_pager.specs.Reading.{Reading, known_at}
 use Rattle.bv_session.specs.declared.entry.Told.{Told}
-use Rattle.bv_session.specs.Disk.{AreThere, HasPage, ReadsRightThroughout, events_since, told_after}
+use Rattle.bv_session.specs.Disk.{AreThere, HasPage, events_since, told_after}
 use Rattle.bv_volume.specs.Events.{Does, Happens, event_of}
 use Rattle.bv_volume.specs.Seen.{Seen}
 use Rattle.bv_shared.specs.Entries.{GainsAs, basis_of, device_events, entries_in, told_of}
@@ -65,14 +65,14 @@ module _ (who : Who) (slot : ℕ) (root : Digest) (n calls : ℕ) where
     abbrev events : List CoreEvent
     events = h.events ++ event ∷ []
 
-    page_here : (b d : Disk) (r : Reading) → r.root ≡ root → r.size ≡ n → Legal (up_to h events) next → AreMounted events → EachMoment (Some b) (Some d) (with_event h event) next → ReaderHasBy (Some b) (Some d) (with_event h event) next r
-        → IsSettled b.trace → HoldsWhole (now_of b) (opening_map h) → (last_state (up_to h events) next).stopped ≡ None → length d.trace ≡ calls → ReadsRightThroughout d.trace → AreByLine [] h.events
+    page_here : (b d : Disk) (r : Reading) → r.root ≡ root → r.size ≡ n → Legal (up_to h events) next → AreMounted events → EachMoment (Some b) (Some d) (with_event h event) next → ReaderHasBy (Some b) (Some d) (with_event h event) r
+        → IsSettled b.trace → HoldsWhole (now_of b) (opening_map h) → length d.trace ≡ calls → AreByLine [] h.events
         → (w : ℕ) (p : Page) → known_at r w ≡ Some p → GivenBy h next h.events root (there_at (now_of b) (take calls d.trace) h.events root) p
-    page_here b d r is_root is_size legal mounted moments reader settled whole going counted right lined w p known =
+    page_here b d r is_root is_size legal mounted moments reader settled whole counted lined w p known =
         let by : AreByLine [] events = by_line_push [] h.events event lined tt in
         let has : HeldAt (now_of b) h next events who.session slot root n = held_at (now_of b) h next events who.session slot root n legal mounted whole.is (holds_opened h.events) in
-        let its : HasItsBlob (now_of b) (take calls d.trace) events root has.blob = moments h.events event [] refl (settled, whole) going by root has.blob has.found in
-        let given : HasIts (now_of b) d.trace h events r.root r.size p = reader settled whole going right by w p known in
+        let its : HasItsBlob (now_of b) (take calls d.trace) events root has.blob = moments h.events event [] refl (settled, whole) by root has.blob has.found (inr has.unqueued) in
+        let given : HasIts (now_of b) d.trace h events r.root r.size p = reader settled whole by w p known in
         page_there (now_of b) d.trace h next h.events event who.session slot root n refl legal has its p
         (subst (λ (k : ℕ). HasIts (now_of b) d.trace h events root k p) is_size (subst (λ (y : Digest). HasIts (now_of b) d.trace h events y r.size p) is_root given))
 
@@ -100,7 +100,7 @@ module _ (o v w : Seen) (since : Since o w) (within : AreWithin v) (legal : Lega
     abbrev noted : History
     noted = with_event h (event_of who act (replies.Opened n) calls)
 
-    given : (b d : Disk) → w.store.began ≡ Some b → w.store.told ≡ Some d → IsSettled b.trace → HoldsWhole (now_of b) (opening_map h) → (last_state noted v.next).stopped ≡ None → ReadsRightThroughout d.trace → AreByLine [] h.events
+    given : (b d : Disk) → w.store.began ≡ Some b → w.store.told ≡ Some d → IsSettled b.trace → HoldsWhole (now_of b) (opening_map h) → AreByLine [] h.events
         → (k : ℕ) (p : Page) → known_at r k ≡ Some p → GivenBy h v.next h.events root (there_at (now_of b) (take calls d.trace) h.events root) p
     given b d is_b is_d =
         let legal_now : Legal noted v.next = subst (λ (x : History). Legal x v.next) happens.history (subst (λ (m : ℕ). Legal w.history m) happens.next legal) in
@@ -110,28 +110,27 @@ module _ (o v w : Seen) (since : Since o w) (within : AreWithin v) (legal : Lega
         (subst (λ (m : ℕ). EachMoment (Some b) (Some d) w.history m) happens.next
         (subst (λ (t : Option Disk). EachMoment (Some b) t w.history w.next) is_d
         (subst (λ (t : Option Disk). EachMoment t w.store.told w.history w.next) is_b since.4))) in
-        let reader : ReaderHasBy (Some b) (Some d) noted v.next r =
-        subst (λ (x : History). ReaderHasBy (Some b) (Some d) x v.next r) happens.history
-        (subst (λ (m : ℕ). ReaderHasBy (Some b) (Some d) w.history m r) happens.next
-        (subst (λ (t : Option Disk). ReaderHasBy (Some b) t w.history w.next r) is_d
-        (subst (λ (t : Option Disk). ReaderHasBy t w.store.told w.history w.next r) is_b has))) in
+        let reader : ReaderHasBy (Some b) (Some d) noted r =
+        subst (λ (x : History). ReaderHasBy (Some b) (Some d) x r) happens.history
+        (subst (λ (t : Option Disk). ReaderHasBy (Some b) t w.history r) is_d
+        (subst (λ (t : Option Disk). ReaderHasBy t w.store.told w.history r) is_b has)) in
         let count : length d.trace ≡ calls = subst (λ (t : Option Disk). IfSome t (λ d. length d.trace ≡ calls)) is_d counted in
-        λ settled whole going right lined k p known.
-        page_here who slot root n calls h v.next b d r is_root is_size legal_now mounted moments reader settled whole going count right lined k p known
+        λ settled whole lined k p known.
+        page_here who slot root n calls h v.next b d r is_root is_size legal_now mounted moments reader settled whole count lined k p known
 
     there : AreThere (basis_of v faults) (entry v w within who act (replies.Opened n) happens) r
     there k p known =
         there_when v.store.began (device_events w.store.told) calls
-        (λ d t. IsSettled d.trace → HoldsWhole (now_after d.base d.trace) (opening_map h) → (last_state noted v.next).stopped ≡ None → ReadsRightThroughout (events_since d t) → AreByLine [] h.events
+        (λ d t. IsSettled d.trace → HoldsWhole (now_after d.base d.trace) (opening_map h) → AreByLine [] h.events
         → HasPage (basis_of v faults) d t (r.root, r.size) h.events p)
-        (λ b began settled whole going right lined.
+        (λ b began settled whole lined.
         let is_b : w.store.began ≡ Some b = happens.began ∙ began in
         let told = told_is w.store.told b (subst (λ (x : Option Disk). AreOfOneDisk x w.store.told) is_b since.3) in
         let d : Disk = told.0 in
         let count : length d.trace ≡ calls = subst (λ (t : Option Disk). IfSome t (λ d. length d.trace ≡ calls)) told.1 counted in
         let since_now : events_since (began_as b) (told_by b (take calls (device_events w.store.told))) ≡ take calls d.trace = since_is b (take calls (device_events w.store.told)) ∙ ap (λ (t : Option Disk). take calls (device_events t)) told.1 in
         let all : take calls d.trace ≡ d.trace = take_all calls d.trace (omega (arith, count)) in
-        let page = given b d is_b told.1 settled whole going (subst ReadsRightThroughout (since_now ∙ all) right) lined k p known in
+        let page = given b d is_b told.1 settled whole lined k p known in
         subst (λ (ts : List Event). GivenBy h v.next h.events r.root (there_at (now_of b) ts h.events r.root) p) (sym since_now)
         (subst (λ (y : Digest). GivenBy h v.next h.events y (there_at (now_of b) (take calls d.trace) h.events y) p) (sym is_root) page))
 

@@ -8,7 +8,7 @@ use Rattle.spec_disk.specs.declared.event.Event.{Event}
 use Rattle.spec_tree.specs.declared.Digest.{Digest}
 use Rattle.spec_image.specs.Stored.{fetched_bytes, fetched_path}
 use Rattle.spec_window.specs.Page.{Page}
-use Rattle.spec_core.specs.History.{History, last_state, opening_map}
+use Rattle.spec_core.specs.History.{History, opening_map}
 use Rattle.spec_core.specs.declared.act.Act.{Act}
 use Rattle.spec_core.specs.declared.act.Act.TheVariants as acts
 use Rattle.spec_core.specs.declared.event.CoreEvent.{CoreEvent}
@@ -18,7 +18,7 @@ use Rattle.spec_served.specs.Places.{publisher, version_by}
 use Rattle.bv_cache.specs.Kept.{is_root}
 use Rattle.bv_device.specs.Told.{Disk, now_of}
 use Rattle.bv_pager.specs.Reading.{Reading, known_at}
-use Rattle.bv_session.specs.Disk.{AreThere, ReadsRightThroughout, record_of}
+use Rattle.bv_session.specs.Disk.{AreThere, record_of}
 use Rattle.bv_session.specs.declared.entry.Basis.{Basis}
 use Rattle.bv_session.specs.declared.entry.Entry.{Entry}
 use Rattle.bv_volume.specs.Seen.{Seen}
@@ -37,20 +37,18 @@ HasIts base told h events root size p =
     (held_by base told events root (publisher root None events)) p
 
 -- each page that a reader knows is such a page of its blob: where the device tells, was settled at the
--- opening and had whole blobs then, nothing has stopped the volume, no write has failed, and lines made
--- the events
-abbrev pub ReaderHasBy : Option Disk → Option Disk → History → ℕ → Reading → Type 0
-ReaderHasBy began told h next r =
+-- opening and had whole blobs then, and lines made the events
+abbrev pub ReaderHasBy : Option Disk → Option Disk → History → Reading → Type 0
+ReaderHasBy began told h r =
     IfSome began (λ b. IfSome told (λ d.
     IsSettled b.trace → HoldsWhole (now_of b) (opening_map h)
-    → (last_state h next).stopped ≡ None
-    → ReadsRightThroughout d.trace → AreByLine [] h.events
+    → AreByLine [] h.events
     → (w : ℕ) (p : Page) → known_at r w ≡ Some p
     → HasIts (now_of b) d.trace h h.events r.root r.size p))
 
 -- the same of a volume
 abbrev pub ReaderHas : Seen → Reading → Type 0
-ReaderHas v r = ReaderHasBy v.store.began v.store.told v.history v.next r
+ReaderHas v r = ReaderHasBy v.store.began v.store.told v.history r
 
 -- each reader is of the root under which it is kept, and the only one there, and P holds of it
 abbrev pub AreKept : (Reading → Type 0) → List (Digest × Reading) → Type 0
@@ -99,11 +97,11 @@ HasIts-prop base told h events root size p =
     let path = Coded-set (coded_list (coded_list coded_ℕ)) p.path (fetched_path b blocks p.window) in
     λ x y i. (bytes x.0 y.0 i, path x.1 y.1 i)
 
-ReaderHasBy-prop : (began told : Option Disk) (h : History) (next : ℕ) (r : Reading) → IsProp (ReaderHasBy began told h next r)
-ReaderHasBy-prop None told h next r = Unit-prop
-ReaderHasBy-prop (Some b) None h next r = Unit-prop
-ReaderHasBy-prop (Some b) (Some d) h next r =
-    Π_prop (λ settled. Π_prop (λ whole. Π_prop (λ going. Π_prop (λ right. Π_prop (λ lined. Π_prop (λ w. Π_prop (λ p. Π_prop (λ known. HasIts-prop (now_of b) d.trace h h.events r.root r.size p))))))))
+ReaderHasBy-prop : (began told : Option Disk) (h : History) (r : Reading) → IsProp (ReaderHasBy began told h r)
+ReaderHasBy-prop None told h r = Unit-prop
+ReaderHasBy-prop (Some b) None h r = Unit-prop
+ReaderHasBy-prop (Some b) (Some d) h r =
+    Π_prop (λ settled. Π_prop (λ whole. Π_prop (λ lined. Π_prop (λ w. Π_prop (λ p. Π_prop (λ known. HasIts-prop (now_of b) d.trace h h.events r.root r.size p))))))
 
 AreKept-prop : (P : Reading → Type 0) → ((r : Reading) → IsProp (P r)) → (kept : List (Digest × Reading)) → IsProp (AreKept P kept)
 AreKept-prop P prop [] = Unit-prop
@@ -113,4 +111,4 @@ AreKept-prop P prop (x ∷ xs) =
     λ y z i. (root y.0 z.0 i, sole y.1 z.1 i, prop x.1 y.2 z.2 i, AreKept-prop P prop xs y.3 z.3 i)
 
 pub KeptPages-prop : (v : Seen) (kept : List (Digest × Reading)) → IsProp (KeptPages v kept)
-KeptPages-prop v kept = AreKept-prop (ReaderHas v) (ReaderHasBy-prop v.store.began v.store.told v.history v.next) kept
+KeptPages-prop v kept = AreKept-prop (ReaderHas v) (ReaderHasBy-prop v.store.began v.store.told v.history) kept

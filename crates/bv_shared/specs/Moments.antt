@@ -1,5 +1,5 @@
 -- What the disk had of the blobs of the map as each event ended.
-use Rattle.std.specs.Prelude.{◌≡◌, ◌<◌, ℕ, Bool, true, false, List, [], ◌∷◌, ◌++◌, length, map, take, Option, None, Some, IfSome, is_some}
+use Rattle.std.specs.Prelude.{◌≡◌, ◌<◌, ◌⊎◌, ℕ, Bool, true, false, List, [], ◌∷◌, ◌++◌, length, map, take, Option, None, Some, IfSome, is_some}
 use Rattle.std.specs.Coded.{Coded-set, coded_bool, coded_list, coded_ℕ, Π_prop, Unit-prop, le_prop}
 use Rattle.spec_disk.specs.Disk.{Blocks, block, now_after}
 use Rattle.spec_disk.specs.Images.{IsSettled}
@@ -13,7 +13,7 @@ use Rattle.spec_image.specs.Stored.{fetched_bytes, fetched_path}
 use Rattle.spec_image.specs.Volume.{blob_in, metadata_of}
 use Rattle.spec_window.specs.Window.{Verifies}
 use Rattle.spec_core.specs.History.{History, last_state, opening_map}
-use Rattle.spec_core.specs.State.{find}
+use Rattle.spec_core.specs.State.{State, among, find}
 use Rattle.spec_core.specs.declared.event.CoreEvent.{CoreEvent}
 use Rattle.spec_core.specs.declared.who.Who.{Who}
 use Rattle.spec_crash.specs.Crash.{HoldsWhole}
@@ -87,13 +87,20 @@ HasItsBlob base told events root blob =
 abbrev pub BeganWhole : Option Disk → History → Type 0
 BeganWhole began h = IfSome began (λ d. IsSettled d.trace × HoldsWhole (now_of d) (opening_map h))
 
--- once these events were made, within so many calls of the device: while no write or sync had failed,
--- the disk had each blob of the map, where the device tells and lines made the events
+-- the disk has this blob of the state's map, also where a failed call may have purged what is queued:
+-- nothing has stopped the volume, or the blob isn't queued
+abbrev pub IsSure : State → Digest → Type 0
+IsSure s root = (s.stopped ≡ None) ⊎ (among s.queue root ≡ false)
+
+-- once these events were made, within so many calls of the device: the disk had each blob of the map,
+-- after a write or sync had failed each but those that are queued; where the device tells and lines
+-- made the events
 abbrev pub Moment : Option Disk → Option Disk → History → ℕ → List CoreEvent → ℕ → Type 0
 Moment began told h next events calls =
-    BeganWhole began h → (last_state (up_to h events) next).stopped ≡ None → AreByLine [] events
+    BeganWhole began h → AreByLine [] events
     → IfSome began (λ b. IfSome told (λ d. (root : Digest) (blob : Blob)
     → find (last_state (up_to h events) next).map root ≡ Some blob
+    → IsSure (last_state (up_to h events) next) root
     → HasItsBlob (now_of b) (take calls d.trace) events root blob))
 
 -- as each event ended
@@ -138,7 +145,7 @@ IfSome-prop (Some x) P prop = prop x
 
 pub EachMoment-prop : (began told : Option Disk) (h : History) (next : ℕ) → IsProp (EachMoment began told h next)
 EachMoment-prop began told h next =
-    Π_prop (λ before. Π_prop (λ e. Π_prop (λ rest. Π_prop (λ is. Π_prop (λ whole. Π_prop (λ going. Π_prop (λ lined.
-    IfSome-prop began (λ b. IfSome told (λ d. (root : Digest) (blob : Blob) → find (last_state (up_to h (before ++ e ∷ [])) next).map root ≡ Some blob → HasItsBlob (now_of b) (take e.calls d.trace) (before ++ e ∷ []) root blob))
-    (λ b. IfSome-prop told (λ d. (root : Digest) (blob : Blob) → find (last_state (up_to h (before ++ e ∷ [])) next).map root ≡ Some blob → HasItsBlob (now_of b) (take e.calls d.trace) (before ++ e ∷ []) root blob)
-    (λ d. Π_prop (λ root. Π_prop (λ blob. Π_prop (λ has. HasItsBlob-prop (now_of b) (take e.calls d.trace) (before ++ e ∷ []) root blob))))))))))))
+    Π_prop (λ before. Π_prop (λ e. Π_prop (λ rest. Π_prop (λ is. Π_prop (λ whole. Π_prop (λ lined.
+    IfSome-prop began (λ b. IfSome told (λ d. (root : Digest) (blob : Blob) → find (last_state (up_to h (before ++ e ∷ [])) next).map root ≡ Some blob → IsSure (last_state (up_to h (before ++ e ∷ [])) next) root → HasItsBlob (now_of b) (take e.calls d.trace) (before ++ e ∷ []) root blob))
+    (λ b. IfSome-prop told (λ d. (root : Digest) (blob : Blob) → find (last_state (up_to h (before ++ e ∷ [])) next).map root ≡ Some blob → IsSure (last_state (up_to h (before ++ e ∷ [])) next) root → HasItsBlob (now_of b) (take e.calls d.trace) (before ++ e ∷ []) root blob)
+    (λ d. Π_prop (λ root. Π_prop (λ blob. Π_prop (λ has. Π_prop (λ sure. HasItsBlob-prop (now_of b) (take e.calls d.trace) (before ++ e ∷ []) root blob))))))))))))
