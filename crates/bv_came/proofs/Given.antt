@@ -1,8 +1,7 @@
 -- The page that a session's entry brought has what its blob is to hold, by what the entries of a value
 -- say.
-use Rattle.std.proofs.Common.{◌≡◌, ◌≤◌, inl, inr, ℕ, zero, suc, ◌==◌, true, cond, Option, None, Some, List, [], ◌∷◌, ◌++◌, length, take, drop, refl, sym, ap, ◌∙◌, subst, append_assoc, arith, take_all}
+use Rattle.std.proofs.Common.{◌≡◌, ℕ, ◌==◌, true, cond, Option, Some, List, [], ◌∷◌, ◌++◌, length, take, drop, refl, sym, ap, ◌∙◌, subst, append_assoc, inr}
 use Rattle.std.specs.Prelude.{All, IfSome, IsSomeAnd}
-use Rattle.std.proofs.lemmas.Bool.{cases_lt}
 use Rattle.std.proofs.lemmas.List.{map-append}
 use Rattle.std.proofs.lemmas.List.Elements.{All-head, All-tail, filter-append}
 use Rattle.spec_disk.specs.Disk.{Blocks, now_after}
@@ -11,7 +10,7 @@ use Rattle.spec_disk.specs.declared.event.Event.{Event}
 use Rattle.spec_image.specs.Volume.{blobs}
 use Rattle.spec_crash.specs.Crash.{HoldsWhole}
 use Rattle.spec_window.specs.Page.{Page}
-use Rattle.spec_core.specs.History.{History, Legal, last_state, opening_map}
+use Rattle.spec_core.specs.History.{History, Legal, opening_map}
 use Rattle.spec_core.specs.declared.event.CoreEvent.{CoreEvent}
 use Rattle.spec_orderly.specs.Slots.{AreMounted}
 use Rattle.spec_seen.proofs.ByLineLemmas.{front_by}
@@ -23,11 +22,10 @@ use Rattle.bv_came.proofs.Fronts.{mounted_back, mounted_front}
 use Rattle.bv_came.proofs.Owned.{own_is, still_open}
 use Rattle.bv_came.proofs.There.{legal_at}
 use Rattle.bv_shared.proofs.HeldLemmas.{GivenBy, HeldAt, held_at, page_held}
-use Rattle.bv_shared.proofs.StayLemmas.{going_then}
 use Rattle.bv_shared.specs.Moments.{there_at}
 use Rattle.bv_came.specs.Sees.{own_entries}
 use Rattle.bv_came.specs.There.{BlobsAreThere}
-use Rattle.bv_session.specs.Disk.{EachAfter, EachTells, HasPage, IsPageThere, ReadsRight, ReadsRightThroughout, events_since, told_after}
+use Rattle.bv_session.specs.Disk.{EachAfter, EachTells, HasPage, IsPageThere, events_since, told_after}
 use Rattle.bv_session.specs.declared.entry.Basis.{Basis}
 use Rattle.bv_session.specs.declared.entry.Entry.{Entry}
 use Rattle.bv_session.specs.declared.entry.Told.{Told}
@@ -40,24 +38,6 @@ use Rattle.bv_session.specs.Pages.{From, StaysOpen}
 at_member : {X : Type 0} (P : X → Type 0) (xs : List X) (x : X) (ys : List X) → All P (xs ++ x ∷ ys) → P x
 at_member P [] x ys k = All-head P x ys k
 at_member P (y ∷ xs) x ys k = at_member P xs x ys (All-tail P y (xs ++ x ∷ ys) k)
-
-take_within : (a c : ℕ) (xs : List Event) → a ≤ c → take a (take c xs) ≡ take a xs
-take_within zero c xs le = refl
-take_within (suc a) zero xs le = absurd (omega (arith, le))
-take_within (suc a) (suc c) [] le = refl
-take_within (suc a) (suc c) (x ∷ xs) le = ap (λ (l : List Event). x ∷ l) (take_within a c xs (omega (arith, le)))
-
-length_taken : (c : ℕ) (xs : List Event) → length (take c xs) ≤ c
-length_taken zero xs = omega arith
-length_taken (suc c) [] = omega arith
-length_taken (suc c) (x ∷ xs) = omega (arith, length_taken c xs)
-
--- what holds of all beginnings holds of those of a beginning
-pub right_then : (c : ℕ) (events : List Event) → ReadsRightThroughout events → ReadsRightThroughout (take c events)
-right_then c events right n = elim (cases_lt c n) [
-  | inl past ↦ subst ReadsRight (sym (take_all n (take c events) (omega (arith, past, length_taken c events)))) (right c)
-  | inr low ↦ subst ReadsRight (sym (take_within n c events low)) (right n)
-]
 
 drop_past : (xs ys : List Event) → drop (length xs) (xs ++ ys) ≡ ys
 drop_past [] ys = refl
@@ -75,7 +55,6 @@ module _ (b : Basis) (d : Told) (is_told : b.told ≡ Some d) (told : List Event
 
   module _ (legal : Legal history b.next) (mounted : AreMounted (events_in entries)) (lined : AreByLine [] (events_in entries))
       (settled : IsSettled d.trace) (whole : HoldsWhole base (opening_map (history_by b []))) (opening : blobs base ≡ Some (opening_map history))
-      (going : (last_state history b.next).stopped ≡ None) (right : ReadsRightThroughout told)
       (there : BlobsAreThere base told history b.next) (s : ℕ) where
     module _ (slot : ℕ) (blob : Named) (p : Page) (first : List Entry) (entry : Entry) (behind rest : List Entry)
         (is : entries ≡ (first ++ entry ∷ behind) ++ rest) where
@@ -115,17 +94,14 @@ module _ (b : Basis) (d : Told) (is_told : b.told ≡ Some d) (told : List Event
       has_page : IsPageThere b blob entry p → HasPage b d then_told blob entry.before p
       has_page k =
           let at : IfSome (Some d) (λ d. IsSomeAnd entry.told (λ t. IsSettled d.trace → HoldsWhole (now_after d.base d.trace) (opening_map (history_by b []))
-          → (last_state (history_by b (entry.before ++ entry.event ∷ [])) b.next).stopped ≡ None → ReadsRightThroughout (events_since d t) → AreByLine [] entry.before → HasPage b d t blob entry.before p)) =
+          → AreByLine [] entry.before → HasPage b d t blob entry.before p)) =
           subst (λ (o : Option Told). IfSome o (λ d. IsSomeAnd entry.told (λ t. IsSettled d.trace → HoldsWhole (now_after d.base d.trace) (opening_map (history_by b []))
-          → (last_state (history_by b (entry.before ++ entry.event ∷ [])) b.next).stopped ≡ None → ReadsRightThroughout (events_since d t) → AreByLine [] entry.before → HasPage b d t blob entry.before p))) is_told k in
+          → AreByLine [] entry.before → HasPage b d t blob entry.before p))) is_told k in
           let now : IsSomeAnd (Some then_told) (λ t. IsSettled d.trace → HoldsWhole (now_after d.base d.trace) (opening_map (history_by b []))
-          → (last_state (history_by b (entry.before ++ entry.event ∷ [])) b.next).stopped ≡ None → ReadsRightThroughout (events_since d t) → AreByLine [] entry.before → HasPage b d t blob entry.before p) =
+          → AreByLine [] entry.before → HasPage b d t blob entry.before p) =
           subst (λ (o : Option Told). IsSomeAnd o (λ t. IsSettled d.trace → HoldsWhole (now_after d.base d.trace) (opening_map (history_by b []))
-          → (last_state (history_by b (entry.before ++ entry.event ∷ [])) b.next).stopped ≡ None → ReadsRightThroughout (events_since d t) → AreByLine [] entry.before → HasPage b d t blob entry.before p)) told_is at in
+          → AreByLine [] entry.before → HasPage b d t blob entry.before p)) told_is at in
           now settled whole
-          (subst (λ (l : List CoreEvent). (last_state (history_by b (l ++ entry.event ∷ [])) b.next).stopped ≡ None) (sym before_is)
-          (going_then history b.next then (events_in (behind ++ rest)) (subst (λ (l : List CoreEvent). (last_state (history_by b l) b.next).stopped ≡ None) events_then going)))
-          (subst ReadsRightThroughout (sym since_is) (right_then entry.event.calls told right))
           (subst (λ (l : List CoreEvent). AreByLine [] l) (sym before_is) (front_by [] before (entry.event ∷ events_in (behind ++ rest)) (subst (λ (l : List CoreEvent). AreByLine [] l) events_are lined)))
 
     -- the page of a session's slot has what the blob is to hold, by the history up to then
@@ -167,7 +143,7 @@ module _ (b : Basis) (d : Told) (is_told : b.told ≡ Some d) (told : List Event
       page_now =
           let page = has_page slot blob p first from.entry behind rest are from.there in
           page_held base told history b.next (events_in first) e s slot blob.0 blob.1 from.brings (legal_at history b.next legal so_far (events_in (behind ++ rest)) at_then) has
-          (there (events_in first) e (events_in (behind ++ rest)) blob.0 has.blob (events_are slot blob p first from.entry behind rest are) has.found)
+          (there (events_in first) e (events_in (behind ++ rest)) blob.0 has.blob (events_are slot blob p first from.entry behind rest are) has.found (inr has.unqueued))
           (events_in behind) (legal_at history b.next legal (so_far ++ events_in behind) (events_in rest) at_behind)
           (front_by [] (so_far ++ events_in behind) (events_in rest) (subst (λ (l : List CoreEvent). AreByLine [] l) at_behind lined))
           (still_open s slot behind (subst (StaysOpen slot) (sym mine_behind) from.stays) mounted_behind)

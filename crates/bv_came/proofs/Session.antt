@@ -1,10 +1,10 @@
 -- What the results of all sessions say of the device, by the entries of the value that they ran over.
-use Rattle.std.proofs.Common.{◌≡◌, ℕ, ◌<◌, None, Some, List, [], ◌++◌, refl}
+use Rattle.std.proofs.Common.{◌≡◌, ℕ, ◌<◌, Some, List, [], ◌++◌, refl}
 use Rattle.spec_disk.specs.Disk.{Blocks, now_after}
 use Rattle.spec_disk.specs.Images.{IsSettled}
 use Rattle.spec_disk.specs.declared.event.Event.{Event}
 use Rattle.spec_crash.specs.Crash.{HoldsWhole}
-use Rattle.spec_core.specs.History.{History, Legal, last_state, opening_map}
+use Rattle.spec_core.specs.History.{History, Legal, opening_map}
 use Rattle.spec_core.specs.declared.event.CoreEvent.{CoreEvent}
 use Rattle.spec_orderly.specs.Slots.{AreMounted}
 use Rattle.spec_script.specs.Lawful.{AreLawful}
@@ -18,7 +18,7 @@ use Rattle.bv_came.proofs.Given.{given}
 use Rattle.bv_came.proofs.Lines.{EndWithin, session_sees}
 use Rattle.bv_came.specs.Sees.{SessionsShow}
 use Rattle.bv_came.specs.There.{BlobsAreThere}
-use Rattle.bv_session.specs.Disk.{EachAfter, EachTells, ReadsRightThroughout}
+use Rattle.bv_session.specs.Disk.{EachAfter, EachTells}
 use Rattle.bv_session.specs.declared.entry.Basis.{Basis}
 use Rattle.bv_session.specs.declared.entry.Entry.{Entry}
 use Rattle.bv_session.specs.declared.entry.Told.{Told}
@@ -35,9 +35,9 @@ module _ (b : Basis) (d : Told) (is_told : b.told ≡ Some d) (told more : List 
 
   -- each session's results are seen
   pub sessions_see : Legal history b.next → AreMounted (events_in entries) → AreByLine [] (events_in entries) → IsSettled d.trace → HoldsWhole base (opening_map history)
-      → (last_state history b.next).stopped ≡ None → ReadsRightThroughout told → BlobsAreThere base told history b.next → EndWithin told more history
+      → BlobsAreThere base told history b.next → EndWithin told more history
       → (s : ℕ) → s < 16 → SeenByAll base (told ++ more) (record history { events = events_in entries ++ late }) (requests_of s lines) (results s)
-  sessions_see legal mounted lined settled whole going right there within s low =
+  sessions_see legal mounted lined settled whole there within s low =
       session_sees b base told more history b.next late legal mounted lined whole.is there within entries refl s
-      (given b d is_told told entries tells afters legal mounted lined settled whole whole.is going right there s)
+      (given b d is_told told entries tells afters legal mounted lined settled whole whole.is there s)
       b.geometry.version (requests_of s lines) (results s) (all_due s 1 lines lawful.rise) (shows s low)

@@ -1,5 +1,5 @@
 -- What the disk has at the blocks of a line's blob, as its own event ends.
-use Rattle.std.proofs.Common.{◌≡◌, ◌≤◌, ℕ, true, is_some, Option, None, Some, List, [], ◌∷◌, ◌++◌, map, take, refl, sym, ap, ◌∙◌, subst, append_assoc}
+use Rattle.std.proofs.Common.{◌≡◌, ◌≤◌, ℕ, false, true, is_some, Option, None, Some, List, [], ◌∷◌, ◌++◌, map, take, refl, sym, ap, ◌∙◌, subst, append_assoc, inr}
 use Rattle.std.specs.Prelude.{All, IsSomeAnd}
 use Rattle.spec_tree.specs.declared.Digest.{Digest}
 use Rattle.spec_tree.specs.declared.blob.Blob.{Blob}
@@ -11,7 +11,7 @@ use Rattle.spec_image.specs.Stored.{fetched_bytes, fetched_path}
 use Rattle.spec_image.specs.Volume.{blob_in, blobs, metadata_of}
 use Rattle.spec_core.specs.History.{History, Legal, NeverFall, last_state, opening_map}
 use Rattle.spec_core.specs.Laws.{Empties}
-use Rattle.spec_core.specs.State.{find, held}
+use Rattle.spec_core.specs.State.{among, find, held}
 use Rattle.spec_core.specs.declared.event.CoreEvent.{CoreEvent}
 use Rattle.spec_core.specs.declared.who.Who.{Who}
 use Rattle.spec_orderly.proofs.Held.{held_last}
@@ -31,6 +31,7 @@ use Rattle.spec_session.specs.Conform.{events_of}
 use Rattle.spec_session.specs.Own.{Named, slot_holds}
 use Rattle.bv_came.proofs.Fronts.{end_then, ended_by, mounted_front}
 use Rattle.bv_came.proofs.Quiet.{IsLooking, blocks_push, publisher_push}
+use Rattle.bv_shared.proofs.HeldLemmas.{held_unqueued}
 use Rattle.bv_shared.proofs.StayLemmas.{held_same, held_taken, legal_then}
 use Rattle.bv_shared.specs.Moments.{HasItsBlob, held_by, image_has, image_size, record_size, there_at}
 use Rattle.bv_came.specs.There.{BlobsAreThere}
@@ -99,9 +100,16 @@ module _ (base : Blocks) (told more : List Event) (h : History) (next : ℕ) (la
   version_then : version_by base after blob.0 (publisher blob.0 None before) ≡ version_by base h blob.0 who
   version_then = ap (version_by base h blob.0) (sym (publisher_push blob.0 before own looks))
 
+  held_first : held (last_state (up_to h then) next).slots (slot_of s slot) ≡ Some blob.0
+  held_first = held_at h next legal mounted then rest s slot blob is_then holds
+
+  -- so no call that failed may have purged it
+  unqueued : among (last_state (up_to h then) next).queue blob.0 ≡ false
+  unqueued = held_unqueued h next then (slot_of s slot) blob.0 (legal_at h next legal then rest is_then) held_first
+
   module _ (b : Blob) (found : find (last_state (up_to h then) next).map blob.0 ≡ Some b) (size : b.size ≡ blob.1) where
     its : HasItsBlob base (take own.calls told) then blob.0 b
-    its = there before own rest blob.0 b is found
+    its = there before own rest blob.0 b is found (inr unqueued)
 
     held_then : stored_at base (told ++ more) after at ≡ held_by base told then blob.0 who
     held_then =
@@ -139,9 +147,6 @@ module _ (base : Blocks) (told more : List Event) (h : History) (next : ℕ) (la
 
     legal_behind : Legal (up_to h (then ++ mid)) next
     legal_behind = legal_at h next legal (then ++ mid) end is_behind
-
-    held_first : held (last_state (up_to h then) next).slots (slot_of s slot) ≡ Some blob.0
-    held_first = held_at h next legal mounted then rest s slot blob is_then holds
 
     same_who_then : publisher blob.0 None behind ≡ who
     same_who_then = ap (publisher blob.0 None) to ∙ stay_published h next then mid (slot_of s slot) blob.0 legal_behind held_first open_then

@@ -1,10 +1,8 @@
 -- What the lines of a run's sessions say of a device that tells (this project's profile).
-use Rattle.std.specs.Prelude.{◌≡◌, ℕ, ◌<◌, ◌==◌, List, [], ◌++◌, filter, None, Some}
-use Rattle.spec_disk.specs.Images.{IsSettled}
+use Rattle.std.specs.Prelude.{◌≡◌, ℕ, ◌<◌, ◌==◌, List, [], ◌++◌, filter, Some}
 use Rattle.spec_disk.specs.declared.event.Event.{Event}
-use Rattle.spec_core.specs.History.{Legal, last_state, opening_map}
+use Rattle.spec_core.specs.History.{Legal}
 use Rattle.spec_core.specs.declared.event.CoreEvent.{CoreEvent}
-use Rattle.spec_crash.specs.Crash.{HoldsWhole}
 use Rattle.spec_orderly.specs.Slots.{AreMounted}
 use Rattle.spec_script.specs.Lawful.{AreLawful}
 use Rattle.spec_script.specs.declared.line.ScriptLine.{ScriptLine}
@@ -14,8 +12,7 @@ use Rattle.spec_session.specs.Conform.{requests_of}
 use Rattle.spec_session.specs.declared.result.LineResult.{LineResult}
 use Rattle.bv_device.specs.Told.{Disk, now_of}
 use Rattle.bv_volume.specs.Seen.{Seen}
-use Rattle.bv_shared.specs.Moments.{Moments}
-use Rattle.bv_session.specs.Disk.{ReadsRightThroughout}
+use Rattle.bv_shared.specs.Moments.{BeganWhole, Moments}
 use Rattle.bv_shared.specs.Entries.{basis_of, entries_in}
 use Rattle.bv_session.specs.declared.entry.Basis.{Basis}
 use Rattle.bv_session.specs.declared.entry.Entry.{Entry}
@@ -44,21 +41,14 @@ pub record RanOver (v : Seen) (faults : ℕ) (lines : List ScriptLine) (results 
   pub moments : Moments v
   pub shows : SessionsShow (basis_of v faults) lines (entries_in v) results
 
--- the device was settled when the mount began and had the opening's blobs, each whole; no write or
--- sync has failed since
-pub record HasNotFailed (v : Seen) (b d : Disk) : Type 0 where
-  pub settled : IsSettled b.trace
-  pub whole : HoldsWhole (now_of b) (opening_map v.history)
-  pub going : (last_state v.history v.next).stopped ≡ None
-  pub right : ReadsRightThroughout d.trace
-
--- While nothing has failed, the results say of the disk what they should. Further events of the
--- history and of the device may come behind those of the sessions.
+-- Where the device tells, was settled when the mount began and had the opening's blobs, each whole, the
+-- results say of the disk what they should, also once a write or sync has failed. Further events of
+-- the history and of the device may come behind those of the sessions.
 abbrev pub SessionsSee : Type 0
 SessionsSee =
     (v : Seen) (faults : ℕ) (lines : List ScriptLine) (results : ℕ → List LineResult) (b d : Disk)
     (more : List Event) (late : List CoreEvent)
     → v.store.began ≡ Some b → v.store.told ≡ Some d → RanOver v faults lines results
-    → HasNotFailed v b d → (s : ℕ) → s < 16
+    → BeganWhole v.store.began v.history → (s : ℕ) → s < 16
     → SeenByAll (now_of b) (d.trace ++ more)
     (record v.history { events = v.history.events ++ late }) (requests_of s lines) (results s)
