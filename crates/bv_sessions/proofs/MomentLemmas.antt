@@ -1,5 +1,5 @@
 -- What the disk had as each event of the sessions ended, also behind the unmount.
-use Rattle.std.proofs.Common.{◌≡◌, ℕ, ◌≤◌, ◌⊎◌, List, [], ◌∷◌, ◌++◌, length, take, Option, None, Some, refl, sym, ap, ◌∙◌, subst}
+use Rattle.std.proofs.Common.{◌≡◌, ℕ, ◌≤◌, List, [], ◌∷◌, ◌++◌, length, take, Option, None, Some, sym, subst}
 use Rattle.std.specs.Prelude.{IfSome}
 use Rattle.std.proofs.lemmas.List.{take-append-le}
 use Rattle.spec_disk.specs.declared.event.Event.{Event}
@@ -10,7 +10,7 @@ use Rattle.spec_core.specs.State.{find}
 use Rattle.spec_core.specs.declared.event.CoreEvent.{CoreEvent}
 use Rattle.spec_seen.specs.Held.{up_to}
 use Rattle.bv_device.specs.Told.{Disk, disk_with, now_of}
-use Rattle.bv_shared.specs.Moments.{HasItsBlob, Moment}
+use Rattle.bv_shared.specs.Moments.{HasItsBlob, IsSure, Moment}
 use Rattle.bv_shared.specs.Since.{EndBy}
 use Rattle.bv_store.specs.Stored.{Grows}
 
@@ -46,6 +46,6 @@ pub later_moment : (began o new : Option Disk) (P : Disk → List Event → Type
 later_moment began None new P h next events calls grows within m = subst (λ (x : Option Disk). Moment began x h next events calls) (sym grows) m
 later_moment began (Some d) new P h next events calls grows within m =
     let same : take calls (d.trace ++ grows.0) ≡ take calls d.trace = take-append-le calls d.trace grows.0 within in
-    let moved : Moment began (Some (disk_with d grows.0)) h next events calls = λ whole going lined.
-    subst (λ (told : List Event). IfSome began (λ b. (root : Digest) (blob : Blob) → find (last_state (up_to h events) next).map root ≡ Some blob → HasItsBlob (now_of b) told events root blob)) (sym same) (m whole going lined) in
+    let moved : Moment began (Some (disk_with d grows.0)) h next events calls = λ whole lined.
+    subst (λ (told : List Event). IfSome began (λ b. (root : Digest) (blob : Blob) → find (last_state (up_to h events) next).map root ≡ Some blob → IsSure (last_state (up_to h events) next) root → HasItsBlob (now_of b) told events root blob)) (sym same) (m whole lined) in
     subst (λ (x : Option Disk). Moment began x h next events calls) (sym grows.1) moved

@@ -3,7 +3,6 @@ use Rattle.std.proofs.Common.{◌≡◌, ℕ, suc, zero, ◌<◌, ◌≤◌, ◌
 use Rattle.std.specs.Prelude.{IfSome, IsSomeAnd, cond}
 use Rattle.std.proofs.lemmas.List.{append-nil}
 use Rattle.std.proofs.lemmas.List.Elements.{filter-append}
-use Rattle.std.proofs.Math.Seq.{take-append_seam}
 use Rattle.spec_disk.specs.Images.{IsSettled}
 use Rattle.spec_disk.specs.declared.event.Event.{Event}
 use Rattle.spec_core.specs.History.{History, Legal, first_state, last_state, opening_map, setting_of, with_event}
@@ -28,18 +27,15 @@ use Rattle.spec_session.specs.declared.end.SessionEnd.{SessionEnd}
 use Rattle.spec_session.specs.declared.result.LineResult.{LineResult}
 use Rattle.spec_served.specs.Served.{ServeLines, Served, ServedSome}
 use Rattle.bv_device.specs.Told.{Disk, disk_with, now_of}
-use Rattle.bv_came.proofs.Given.{right_then}
 use Rattle.bv_came.proofs.Sees.{sessions_see_all}
 use Rattle.bv_came.specs.Sees.{RanOver, SessionsShow}
-use Rattle.bv_session.specs.Disk.{ReadsRightThroughout}
 use Rattle.bv_session.specs.Events.{history_of}
 use Rattle.bv_session.specs.declared.entry.Basis.{Basis}
 use Rattle.bv_session.specs.declared.entry.Told.{Told}
 use Rattle.bv_session.proofs.EndLemmas.{cut_after, goes_does}
 use Rattle.bv_shared.proofs.CallerLemmas.{caused_more, history_is, one_disk_more}
 use Rattle.bv_shared.specs.Entries.{basis_of, device_events, entries_from, entries_in, told_of}
-use Rattle.bv_shared.proofs.StayLemmas.{going_then}
-use Rattle.bv_shared.specs.Moments.{Moment, Moments}
+use Rattle.bv_shared.specs.Moments.{BeganWhole, Moment, Moments}
 use Rattle.bv_shared.specs.Since.{AreOfOneDisk, AreWithin}
 use Rattle.bv_store.specs.Stored.{Grows, Stored}
 use Rattle.bv_volume.specs.Events.{event_of}
@@ -162,10 +158,6 @@ none_left lines first v ends left legal = no_add_left lines v.history v.next leg
 some_if : {A : Type 0} (P : A → Type 0) (o : Option A) → ((x : A) → o ≡ Some x → P x) → IfSome o P
 some_if P None k = tt
 some_if P (Some x) k = k x refl
-
--- what holds throughout some events held throughout the first of them
-right_front : (xs ys : List Event) → ReadsRightThroughout (xs ++ ys) → ReadsRightThroughout xs
-right_front xs ys right = subst ReadsRightThroughout (take-append_seam xs ys) (right_then (length xs) (xs ++ ys) right)
 
 -- ---- the ends at their places
 
@@ -295,32 +287,27 @@ module _ (lines : List ScriptLine) (first : Volume) where
 
       -- what the device then tells has grown by the unmount's events
       grown : (b d : Disk) (more : List Event) → v.store.began ≡ Some b → v.store.told ≡ Some d → IsSettled b.trace → HoldsWhole (now_of b) (opening_map h)
-          → (last_state h first.next).stopped ≡ None → ReadsRightThroughout (d.trace ++ more) → Seen (now_of b) (d.trace ++ more) (run_of lines h ends)
-      grown b d more began told settled whole going right s low =
+          → Seen (now_of b) (d.trace ++ more) (run_of lines h ends)
+      grown b d more began told settled whole s low =
           subst (λ (x : History). SeenByAll (now_of b) (d.trace ++ more) x (requests_of s lines) (results_of ends s)) (sym is_event)
-          (sessions_see_all v first.store.faults lines (results_of ends) b d more (event ∷ []) began told left.over (record {
-            settled = settled;
-            whole = subst (λ (x : History). HoldsWhole (now_of b) (opening_map x)) is_event whole;
-            going = going_then v.history v.next v.history.events (event ∷ [])
-                (subst (λ (x : History × ℕ). (last_state x.0 x.1).stopped ≡ None) (λ i. (is_event i, sym left.next i)) going);
-            right = right_front d.trace more right;
-          }) s low)
+          (sessions_see_all v first.store.faults lines (results_of ends) b d more (event ∷ []) began told left.over
+          (subst (λ (o : Option Disk). BeganWhole o v.history) (sym began) (settled, subst (λ (x : History). HoldsWhole (now_of b) (opening_map x)) is_event whole)) s low)
 
       by_told : (b e : Disk) (o : Option Disk) → v.store.began ≡ Some b → u.last.store.told ≡ Some e → v.store.told ≡ o → Grows o u.last.store.told (λ d more. (more ≡ []) ⊎ MayCall Unmount)
-          → IsSettled b.trace → HoldsWhole (now_of b) (opening_map h) → (last_state h first.next).stopped ≡ None → ReadsRightThroughout e.trace → Seen (now_of b) e.trace (run_of lines h ends)
-      by_told b e None began now told grows settled whole going right = absurd (none_some (sym grows ∙ now)) where
+          → IsSettled b.trace → HoldsWhole (now_of b) (opening_map h) → Seen (now_of b) e.trace (run_of lines h ends)
+      by_told b e None began now told grows settled whole = absurd (none_some (sym grows ∙ now)) where
         none_some : None ≡ Some e → ⊥
         none_some k = cc
-      by_told b e (Some d) began now told grows settled whole going right =
+      by_told b e (Some d) began now told grows settled whole =
           let same : disk_with d grows.0 ≡ e = let k : Some (disk_with d grows.0) ≡ Some e = sym grows.1 ∙ now in cc in
           subst (λ (x : Disk). Seen (now_of b) x.trace (run_of lines h ends)) same
-          (grown b d grows.0 began told settled whole going (subst (λ (x : Disk). ReadsRightThroughout x.trace) (sym same) right))
+          (grown b d grows.0 began told settled whole)
 
-      sees : SeesBy (run_of lines h ends) first.next u.last
+      sees : SeesBy (run_of lines h ends) u.last
       sees =
-          some_if (λ (b : Disk). IfSome u.last.store.told (λ d. IsSettled b.trace → HoldsWhole (now_of b) (opening_map h) → (last_state h first.next).stopped ≡ None → ReadsRightThroughout d.trace → Seen (now_of b) d.trace (run_of lines h ends)))
+          some_if (λ (b : Disk). IfSome u.last.store.told (λ d. IsSettled b.trace → HoldsWhole (now_of b) (opening_map h) → Seen (now_of b) d.trace (run_of lines h ends)))
           u.last.store.began (λ b is_b.
-          some_if (λ (d : Disk). IsSettled b.trace → HoldsWhole (now_of b) (opening_map h) → (last_state h first.next).stopped ≡ None → ReadsRightThroughout d.trace → Seen (now_of b) d.trace (run_of lines h ends))
+          some_if (λ (d : Disk). IsSettled b.trace → HoldsWhole (now_of b) (opening_map h) → Seen (now_of b) d.trace (run_of lines h ends))
           u.last.store.told (λ d is_d.
           by_told b d v.store.told (sym u.happens.began ∙ is_b) is_d refl u.happens.told))
 

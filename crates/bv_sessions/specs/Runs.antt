@@ -1,7 +1,7 @@
 -- What a run of a script's sessions over a mounted volume gives (this project's profile).
-use Rattle.std.specs.Prelude.{◌≡◌, ℕ, Bool, true, false, List, [], ◌∷◌, ◌++◌, None, length, IfSome, IsSomeAnd}
+use Rattle.std.specs.Prelude.{◌≡◌, Bool, true, false, List, [], ◌∷◌, ◌++◌, None, length, IfSome, IsSomeAnd}
 use Rattle.spec_disk.specs.Images.{IsSettled}
-use Rattle.spec_core.specs.History.{History, last_state, opening_map}
+use Rattle.spec_core.specs.History.{History, opening_map}
 use Rattle.spec_crash.specs.Crash.{HoldsWhole}
 use Rattle.spec_core.specs.declared.act.Act.TheVariants.{Unmount}
 use Rattle.spec_core.specs.declared.event.CoreEvent.{CoreEvent}
@@ -10,7 +10,6 @@ use Rattle.spec_headline.specs.Run.{Ended, CutShort, Run, Seen, run_of}
 use Rattle.spec_script.specs.declared.line.ScriptLine.{ScriptLine}
 use Rattle.spec_session.specs.declared.end.SessionEnd.{SessionEnd}
 use Rattle.bv_device.specs.Told.{now_of}
-use Rattle.bv_session.specs.Disk.{ReadsRightThroughout}
 use Rattle.bv_shared.specs.Moments.{Moment}
 use Rattle.bv_store.specs.Stored.{Stored}
 use Rattle.bv_volume.specs.Seen.{Seen as Volume, IsSafe}
@@ -29,15 +28,14 @@ pub record IsLater (first last : Volume) : Type 0 where
       IsSomeAnd last.store.told (λ d. d.base ≡ now_of b))
 
 -- What the results of a run say of the disk that its last volume tells of: where that was settled when
--- the mount began and had the opening's blobs, each whole, and no write or sync has failed since.
-abbrev pub SeesBy : Run → ℕ → Volume → Type 0
-SeesBy run next last = IfSome last.store.began (λ b. IfSome last.store.told (λ d.
+-- the mount began and had the opening's blobs, each whole. Writes and syncs may have failed since.
+abbrev pub SeesBy : Run → Volume → Type 0
+SeesBy run last = IfSome last.store.began (λ b. IfSome last.store.told (λ d.
     IsSettled b.trace → HoldsWhole (now_of b) (opening_map run.history)
-    → (last_state run.history next).stopped ≡ None → ReadsRightThroughout d.trace
     → Seen (now_of b) d.trace run))
 
--- As each event of the sessions ended, the disk had each blob of the map, while no write or sync had
--- failed.
+-- As each event of the sessions ended, the disk had each blob of the map; once a write or sync had
+-- failed, each but those that were queued.
 abbrev pub SessionsHad : Volume → Type 0
 SessionsHad last =
     (before : List CoreEvent) (e : CoreEvent) (rest : List CoreEvent)
@@ -67,6 +65,6 @@ pub record Runs (lines : List ScriptLine) (first : Volume) (h : History) (ends :
   -- the disk had the blobs of the map as each event of the sessions ended
   pub had : whole ≡ true → SessionsHad last
   -- the results say of the device what they should
-  pub seen : whole ≡ true → SeesBy (run_of lines h ends) first.next last
+  pub seen : whole ≡ true → SeesBy (run_of lines h ends) last
   -- after a reply `unmounted` the device is settled
   pub settled : whole ≡ true → IsUnmounted h → IfSome store.told (λ d. IsSettled d.trace)
