@@ -1,5 +1,5 @@
 -- A command whose call is in order ends well where nothing fails and there is enough.
-use Rattle.std.proofs.Common.{◌≡◌, ◌⊎◌, inl, inr, ℕ, ◌≤◌, List, [], ◌∷◌, ◌++◌, length, drop, Option, None, Some, Result, Ok, Err, is_some, refl, ap, sym, ◌∙◌, subst, arith, append-nil}
+use Rattle.std.proofs.Common.{◌≡◌, ◌⊎◌, inl, inr, ℕ, ◌≤◌, List, [], ◌∷◌, ◌++◌, length, Option, None, Some, Result, Ok, Err, is_some, refl, ap, ◌∙◌, subst, arith, append-nil}
 use Rattle.std.specs.Prelude.{IfSome, IsOk, IsSome, IsSomeAnd}
 use Rattle.std.specs.Io.KnownBytes.{Consumes, IsAtEnd}
 use Rattle.std.proofs.lemmas.List.{length-append}
@@ -15,7 +15,6 @@ use Rattle.spec_inspect.specs.declared.mount_fault.MountFault.{MountFault}
 use Rattle.spec_inspect.specs.declared.mount_fault.MountFault.TheVariants as mount
 use Rattle.spec_inspect.specs.Inspection.{Inspection, inspect_of}
 use Rattle.spec_inspect.proofs.OutcomeLemmas.{blobs_are_ok, volume_or_none}
-use Rattle.spec_core.specs.History.{last_state}
 use Rattle.spec_core.specs.declared.act.Act.{Act}
 use Rattle.spec_core.specs.declared.act.Act.TheVariants.{Sync}
 use Rattle.spec_core.specs.declared.event.CoreEvent.{CoreEvent}
@@ -28,7 +27,6 @@ use Rattle.spec_headline.specs.Run.{Ended, MetFault, MetMismatch, Run}
 use Rattle.spec_complete.specs.Good.{IsGood}
 use Rattle.spec_complete.proofs.Going.{events_go_well}
 use Rattle.spec_complete.proofs.Results.{runs_go_well}
-use Rattle.spec_complete.proofs.Stopping.{nothing_stops}
 use Rattle.bv_device.specs.Plan.{with_events}
 use Rattle.bv_device.specs.Reads.{ReadsRight, Sees}
 use Rattle.bv_device.specs.Seen.{Seen}
@@ -50,11 +48,11 @@ use Rattle.bv_run.specs.declared.form.Form.{Form}
 use Rattle.bv_run.specs.declared.form.Form.TheVariants.{Script, Fresh, Demo}
 use Rattle.bv_run.specs.Asked.{Answers, IsRefusedAt, IsUnasked, IsUnread, script_limit}
 use Rattle.bv_run.specs.Begun.{CannotMake, IsRefusedBy, RefusesCounts, RefusesImage}
-use Rattle.bv_run.specs.Complete.{AreOk, Completes, EndsWell, HaveGone, IsGiven, IsReady, IsReadyDisk, IsText}
+use Rattle.bv_run.specs.Complete.{Completes, EndsWell, IsGiven, IsReady, IsReadyDisk, IsText}
 use Rattle.bv_run.specs.Reports.{Answer, NotBegun, OutOfMemory, Done, EndsAs, Reports}
 use Rattle.bv_run.specs.Runs.{RunsScript, Went}
 use Rattle.bv_run.specs.Words.{made_by}
-use Rattle.bv_run.proofs.CalmLemmas.{gone_since, opening_sound, ready_is, right_throughout}
+use Rattle.bv_run.proofs.CalmLemmas.{opening_sound, ready_is}
 
 -- ---- replies
 
@@ -210,22 +208,14 @@ done_well run next first last status.Damage holds calm enough none at = absurd (
 done_well run next first last status.Device holds calm enough none at = absurd (no_fault run next first last holds calm enough at)
 done_well run next first last ended holds calm enough none at = absurd at
 
--- nothing stopped the volume
-never_stopped : (run : Run) (next first last : ℕ) → Ended run next first last → ¬ Rose first last → HasEnough run.lines run.history next → (last_state run.history next).stopped ≡ None
-never_stopped run next first last ended calm enough = nothing_stops run next first last ended calm enough run.history.events [] (sym (append-nil run.history.events))
-
--- where the disk was ready and each write and sync answered Ok, no line met a mismatch
-met_none : (made : Option Geometry) (run : Run) (next : ℕ) (old new : Seen) → Went made (Done run next) old new → IsReady made old → HaveGone old.told new.told
-    → ¬ Rose old.fault_count new.fault_count → HasEnough run.lines run.history next → ¬ MetMismatch run
-met_none made run next old new went ready gone calm enough =
+-- where the disk was ready, no line met a mismatch
+met_none : (made : Option Geometry) (run : Run) (next : ℕ) (old new : Seen) → Went made (Done run next) old new → IsReady made old → ¬ MetMismatch run
+met_none made run next old new went ready =
     let d = some_value (IsReadyDisk made old.block_count) old.told ready in
-    let now : IsSomeAnd new.told (λ e. AreOk (drop (length d.0.trace) e.trace)) =
-    subst (λ (o : Option Disk). IfSome o (λ x. IsSomeAnd new.told (λ e. AreOk (drop (length x.trace) e.trace)))) d.1 gone in
-    let e = some_value (λ (x : Disk). AreOk (drop (length d.0.trace) x.trace)) new.told now in
+    let now : IsSomeAnd new.told (λ e. Unit {0}) = subst (λ (o : Option Disk). IfSome o (λ x. IsSomeAnd new.told (λ e. Unit {0}))) d.1 went.tells in
+    let e = some_value (λ (x : Disk). Unit {0}) new.told now in
     let since = went.told d.0 e.0 d.1 e.1 (ready_is made old.block_count d.0 d.2) in
-    since.holds.3 (right_throughout since.events (gone_since made (Done run next) d.0 e.0 since e.2))
-    (never_stopped run next old.fault_count new.fault_count went.holds calm enough)
-    (opening_sound made old.block_count d.0 since.opening d.2 since.is_opening)
+    since.holds.3 (opening_sound made old.block_count d.0 since.opening d.2 since.is_opening)
 
 -- ---- any command
 
@@ -237,7 +227,7 @@ completes form (OutOfMemory run next) ended old new input out asked reports went
 completes form (Done run next) ended old new input out asked (inl part) went can = absurd (can.calm.sink part.1.rose)
 completes form (Done run next) ended old new input out asked (inr text) went can =
     done_well run next old.fault_count new.fault_count ended went.holds can.calm.device can.enough
-    (met_none (made_by form) run next old new went can.ready can.calm.told can.calm.device can.enough) text.1
+    (met_none (made_by form) run next old new went can.ready) text.1
 
 -- from its parts to the clause of the command
 pub runs_script : (form : Form) (answer : Answer) (ended : Status) (old new : Seen) (input out : Change)

@@ -1,4 +1,5 @@
 -- Lemmas on words, sources, statuses, answers and runs.
+pub mod AboutLemmas
 pub mod AskedLemmas
 pub mod CalmLemmas
 pub mod CompleteLemmas

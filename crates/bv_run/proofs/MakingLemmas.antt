@@ -23,7 +23,7 @@ use Rattle.bv_run.specs.declared.finished.Finished.{Finished}
 use Rattle.bv_run.specs.Begun.{CannotMake, Begins, BeginsBy, IsRefusedBy, RefusesImage}
 use Rattle.bv_run.specs.Outcomes.{Came, IsOfDevice, IsRefusalOf}
 use Rattle.bv_run.specs.Reports.{Answer, NotBegun, OutOfMemory, Done}
-use Rattle.bv_run.specs.Runs.{Holds, Went}
+use Rattle.bv_run.specs.Runs.{Holds, StillTells, Went}
 use Rattle.bv_run.specs.Told.{HoldsSince, IsOpening, IsTold}
 
 if_some : {A : Type 0} (P : A → Type 0) (o : Option A) (x : A) → o ≡ Some x → IfSome o P → P x
@@ -103,10 +103,23 @@ module _ (g : Geometry) (old made : Seen) (f : Formats g (Ok tt) old made) where
   raise_begins (OutOfMemory run next) new behind by = raise_begun run next by
   raise_begins (Done run next) new behind by = raise_begun run next by
 
+  -- a device that tells does so behind the making
+  raise_done : (new : Seen) → IfSome made.told (λ x. IsSomeAnd new.told (λ e. Unit {0})) → IfSome old.told (λ d. IsSomeAnd new.told (λ e. Unit {0}))
+  raise_done new tells = by old.told refl where
+    by : (o : Option Disk) → old.told ≡ o → IfSome o (λ d. IsSomeAnd new.told (λ e. Unit {0}))
+    by None is = tt
+    by (Some d) is = let m = made_disk d is in if_some (λ x. IsSomeAnd new.told (λ e. Unit {0})) made.told m.disk m.is tells
+
+  raise_tells : (answer : Answer) (new : Seen) → StillTells answer made.told new.told → StillTells answer old.told new.told
+  raise_tells (NotBegun r) new tells = tt
+  raise_tells (OutOfMemory run next) new tells = tt
+  raise_tells (Done run next) new tells = raise_done new tells
+
   pub raise_went : (answer : Answer) (new : Seen) → IsBehind answer → Went None answer made new → Went (Some g) answer old new
   raise_went answer new behind w = record {
     begins = raise_begins answer new behind w.begins;
     holds = subst (λ n. Holds answer n new.fault_count) f.device w.holds;
+    tells = raise_tells answer new w.tells;
     told = λ d e is is_new premises.
         let m = made_disk d is in
         raise answer d m.disk e m.opening (w.told m.disk e m.is is_new (m.opening.1, none_whole m.disk m.opening.2.empty));
@@ -138,6 +151,7 @@ not_made_counts lines g why mounts old new cannot named same = (
   record {
     begins = inl (why, cannot, named, same);
     holds = tt;
+    tells = tt;
     told = λ d e is is_new premises. inl (told_same old new d e same is is_new);
   },
 )
@@ -154,6 +168,7 @@ not_made lines g (fault.DeviceFault count) old new counts short same f = (
   record {
     begins = f.device.0;
     holds = tt;
+    tells = tt;
     told = λ d e is is_new premises.
         let stops : StopsWell g d new.told = if_some (λ x. StopsWell g x new.told) old.told d is f.stops in
         inr (inl (stops.events, some_is e (disk_with d stops.events) (sym is_new ∙ stops.is), stops.stop));

@@ -1,5 +1,5 @@
 -- From the sessions over a mounted volume to what became of its device.
-use Rattle.std.proofs.Common.{◌≡◌, ℕ, Bool, true, false, List, [], ◌∷◌, ◌++◌, drop, take, Option, None, Some, Result, Ok, Err, refl, ap, sym, ◌∙◌, subst, append_assoc}
+use Rattle.std.proofs.Common.{◌≡◌, ℕ, Bool, true, false, List, [], ◌∷◌, ◌++◌, drop, take, Option, None, Some, Result, Ok, Err, refl, ap, sym, ◌∙◌, subst, append_assoc, inr}
 use Rattle.std.specs.Prelude.{IfSome, IsSomeAnd, option_map}
 use Rattle.std.proofs.lemmas.List.{take-append-drop}
 use Rattle.spec_disk.specs.declared.event.Event.{Event}
@@ -21,7 +21,7 @@ use Rattle.spec_served.specs.Adds.{AreByLine}
 use Rattle.spec_served.specs.Device.{At, blob_by}
 use Rattle.spec_seen.proofs.ByLineLemmas.{front_by}
 use Rattle.spec_seen.specs.Held.{up_to}
-use Rattle.spec_headline.specs.Run.{Run, CutShort, Ended, HasWholeBlobs, OpensWith, Seen as SeenOf, run_of}
+use Rattle.spec_headline.specs.Run.{Run, CutShort, Ended, HasSoundBlobs, HasWholeBlobs, MetMismatch, OpensWith, Seen as SeenOf, run_of}
 use Rattle.spec_headline.specs.Headline.{IsUnmounted, LeavesSettled, LeavesSound, Survives}
 use Rattle.spec_unmounted.proofs.Leaving.{leaves_all}
 use Rattle.spec_complete.specs.Fit.{IsAbout}
@@ -39,10 +39,8 @@ use Rattle.bv_mounted.specs.Mounts.{Gives, Mounts, recovered}
 use Rattle.bv_mounted.specs.Opens.{GoesOn}
 use Rattle.bv_mounted.proofs.ImageLemmas.{holds_whole}
 use Rattle.bv_mounted.proofs.OpensLemmas.{opens_with_its_image, survives_from_its_image}
-use Rattle.bv_session.specs.Disk.{ReadsRightThroughout}
 use Rattle.bv_sessions.specs.Runs.{Runs}
-use Rattle.bv_shared.proofs.StayLemmas.{going_then}
-use Rattle.bv_shared.specs.Moments.{BeganWhole, HasItsBlob, Moment, held_by}
+use Rattle.bv_shared.specs.Moments.{BeganWhole, HasItsBlob, IsSure, Moment, held_by}
 use Rattle.bv_shared.specs.Since.{AreOfOneDisk}
 use Rattle.bv_store.specs.Stored.{Stored}
 use Rattle.bv_volume.specs.Seen.{Seen as Volume}
@@ -53,7 +51,7 @@ use Rattle.bv_run.specs.Mounted.{RunsOver}
 use Rattle.bv_run.specs.Outcomes.{Came}
 use Rattle.bv_run.specs.Reports.{OutOfMemory, Done}
 use Rattle.bv_run.specs.Runs.{Went}
-use Rattle.bv_run.specs.Told.{IsSeen, MeetsNone}
+use Rattle.bv_run.proofs.AboutLemmas.{line_unqueued}
 use Rattle.bv_run.proofs.SoundLemmas.{by_line, if_some, leaves_sound}
 
 some_and : {A : Type 0} (P : A → Type 0) (o : Option A) (x : A) → o ≡ Some x → IsSomeAnd o P → P x
@@ -166,21 +164,21 @@ module _ (old : Seen) (i : Inspected) (claims : Claims) (first : Volume) (m : Mo
         h first.next (sym runs.history_is) runs.later.next opens ended.legal ended.conform ended.unmount unmounted
 
     -- what the results say of the device
-    sees : whole ≡ true → IsSettled d.trace → HasWholeBlobs (now_of d) → OpensWith (now_of d) h first.next → IsSeen (now_of d) events run first.next
-    sees full settled blobs opens right going =
+    sees : whole ≡ true → IsSettled d.trace → HasWholeBlobs (now_of d) → OpensWith (now_of d) h first.next → SeenOf (now_of d) events run
+    sees full settled blobs opens =
         let was : last.store.began ≡ Some d = runs.later.began ∙ (m.began ∙ is) in
         let at =
-        if_some (λ b. IfSome last.store.told (λ t. IsSettled b.trace → HoldsWhole (now_of b) (opening_map h) → (last_state h first.next).stopped ≡ None → ReadsRightThroughout t.trace → SeenOf (now_of b) t.trace run))
+        if_some (λ b. IfSome last.store.told (λ t. IsSettled b.trace → HoldsWhole (now_of b) (opening_map h) → SeenOf (now_of b) t.trace run))
         last.store.began d was (runs.seen full) in
-        if_some (λ t. IsSettled d.trace → HoldsWhole (now_of d) (opening_map h) → (last_state h first.next).stopped ≡ None → ReadsRightThroughout t.trace → SeenOf (now_of d) t.trace run)
+        if_some (λ t. IsSettled d.trace → HoldsWhole (now_of d) (opening_map h) → SeenOf (now_of d) t.trace run)
         last.store.told (since s.opened e) last_told at
-        settled (record { is = opens.map; whole = holds_whole (now_of d) (opening_map h) opens.map blobs }) going right
+        settled (record { is = opens.map; whole = holds_whole (now_of d) (opening_map h) opens.map blobs })
 
     -- as the own event of a line that opens, reads or scans a blob ended, the disk had the blob
-    line_has : AreLawful lines → whole ≡ true → IsSettled d.trace → HasWholeBlobs (now_of d) → OpensWith (now_of d) h first.next → (last_state h first.next).stopped ≡ None
+    line_has : AreLawful lines → whole ≡ true → IsSettled d.trace → HasWholeBlobs (now_of d) → OpensWith (now_of d) h first.next
         → (at : At) → IsAbout h at → (blob : Blob) → find (last_state (up_to h (at.before ++ at.own ∷ [])) first.next).map at.blob.0 ≡ Some blob
         → HoldsThere (now_of d) (take at.own.calls events) (at.before ++ at.own ∷ []) at.blob.0 blob
-    line_has lawful full settled blobs opens going at about blob found =
+    line_has lawful full settled blobs opens at about blob found =
         let then : List CoreEvent = at.before ++ at.own ∷ [] in
         let was : last.store.began ≡ Some d = runs.later.began ∙ (m.began ∙ is) in
         let split : h.events ≡ then ++ about.rest = about.is ∙ sym (append_assoc at.before (at.own ∷ []) about.rest) in
@@ -190,25 +188,43 @@ module _ (old : Seen) (i : Inspected) (claims : Claims) (first : Volume) (m : Mo
         let began_so : BeganWhole (Some d) h = (settled, record { is = opens.map; whole = holds_whole (now_of d) (opening_map h) opens.map blobs }) in
         let ended = runs.ended full in
         let all = moment (subst (λ (o : Option Disk). BeganWhole o h) (sym was) began_so)
-        (going_then h first.next then about.rest (subst (λ (es : List CoreEvent). (last_state (up_to h es) first.next).stopped ≡ None) split going))
         (front_by [] then about.rest (subst (AreByLine []) split (by_line lines h lawful ended.conform ended.unmount))) in
         let Its : Disk → Disk → Type 0 = λ x y. (root : Digest) (b : Blob) → find (last_state (up_to h then) first.next).map root ≡ Some b
-        → HasItsBlob (now_of x) (take at.own.calls y.trace) then root b in
-        let its = if_some (λ y. Its d y) last.store.told (since s.opened e) last_told (if_some (λ x. IfSome last.store.told (λ y. Its x y)) last.store.began d was all) at.blob.0 blob found in
+        → IsSure (last_state (up_to h then) first.next) root → HasItsBlob (now_of x) (take at.own.calls y.trace) then root b in
+        let its = if_some (λ y. Its d y) last.store.told (since s.opened e) last_told (if_some (λ x. IfSome last.store.told (λ y. Its x y)) last.store.began d was all) at.blob.0 blob found (inr (line_unqueued h first.next at ended.legal about)) in
         record { opening = λ none. its.4 ∙ ap (held_by (now_of d) (take at.own.calls events) then at.blob.0) none; published = its.5 }
 
     -- over sound blobs no line meets a mismatch
-    meets : AreLawful lines → whole ≡ true → IsSettled d.trace → HasWholeBlobs (now_of d) → OpensWith (now_of d) h first.next → MeetsNone (now_of d) events run first.next
-    meets lawful full settled blobs opens right going sound =
+    meets : AreLawful lines → whole ≡ true → IsSettled d.trace → HasWholeBlobs (now_of d) → OpensWith (now_of d) h first.next → HasSoundBlobs (now_of d) → ¬ MetMismatch run
+    meets lawful full settled blobs opens sound =
         let ended = runs.ended full in
-        meet_none (now_of d) events run lawful ended.served (sees full settled blobs opens right going)
+        meet_none (now_of d) events run lawful ended.served (sees full settled blobs opens)
         (held_lines_fit (now_of d) events h first.next ended.legal opens.map sound
-        (lines_hold (now_of d) events h first.next ended.legal (line_has lawful full settled blobs opens going)))
+        (lines_hold (now_of d) events h first.next ended.legal (line_has lawful full settled blobs opens)))
+
+  -- a device that told still does
+  told_last : last.store.told ≡ option_map (since s.opened) new.told
+  told_last = sym (ap (λ (x : Stored). x.told) runs.store_is) ∙ ap (λ (x : Seen). option_map (since s.opened) x.told) (sym device)
+
+  ran_tells : IfSome old.told (λ d. IsSomeAnd new.told (λ e. Unit {0}))
+  ran_tells = by old.told refl where
+    told : (o : Option Disk) (b : Disk) → IsSomeAnd (option_map (since s.opened) o) (λ y. y.base ≡ now_of b) → IsSomeAnd o (λ e. Unit {0})
+    told None b k = absurd k
+    told (Some e) b k = tt
+
+    by : (o : Option Disk) → old.told ≡ o → IfSome o (λ d. IsSomeAnd new.told (λ e. Unit {0}))
+    by None is = tt
+    by (Some d) is =
+        let was : last.store.began ≡ Some d = runs.later.began ∙ (m.began ∙ is) in
+        told new.told d
+        (subst (λ (o : Option Disk). IsSomeAnd o (λ y. y.base ≡ now_of d)) told_last
+        (if_some (λ x. IsSomeAnd last.store.told (λ y. y.base ≡ now_of x)) last.store.began d was runs.later.disk))
 
   ran_done : AreLawful lines → whole ≡ true → Went None (Done run first.next) old new
   ran_done lawful full = record {
     begins = ran_begins;
     holds = subst (λ (p : ℕ × ℕ). Ended run first.next p.0 p.1) (λ k. (first_faults k, last_faults k)) (runs.ended full);
+    tells = ran_tells;
     told = λ d e is is_new premises.
         let survives = ran_survives d e is is_new premises.0 premises.1 in
         record {
@@ -232,6 +248,7 @@ module _ (old : Seen) (i : Inspected) (claims : Claims) (first : Volume) (m : Mo
   ran_short cut = record {
     begins = ran_begins;
     holds = subst (λ (p : ℕ × ℕ). CutShort run first.next p.0 p.1) (λ k. (first_faults k, last_faults k)) (runs.cut cut);
+    tells = tt;
     told = λ d e is is_new premises. record {
       opening = d;
       is_opening = refl;

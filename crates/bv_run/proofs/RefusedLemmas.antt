@@ -65,6 +65,7 @@ not_inspected lines fault old new reads =
       record {
         begins = by.0;
         holds = tt;
+        tells = tt;
         told = λ d e is is_new premises. inl (same_disk old.told new.told d e reads.only.told is is_new);
       },
     )
@@ -78,6 +79,7 @@ no_memory lines old new same = (
   record {
     begins = tt;
     holds = tt;
+    tells = tt;
     told = λ d e is is_new premises. inl (same_disk old.told new.told d e (ap (λ (s : Seen). s.told) same) is is_new);
   },
 )
@@ -112,6 +114,7 @@ module _ (old : Seen) (i : Inspected) (new : Seen) (gives : Gives old i) where
     record {
       begins = refused.1.faults.failed;
       holds = tt;
+      tells = tt;
       told = λ d e is is_new premises. mount_told (mount.DeviceFault count) refused d e is is_new premises.0 premises.1;
     },
   )

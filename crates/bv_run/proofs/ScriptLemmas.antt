@@ -52,6 +52,7 @@ out_of_memory : (made : Option Geometry) (run : Run) (next : ℕ) (old new : See
 out_of_memory made run next old new w = record {
   begins = w.begins;
   holds = cut_short run next old.fault_count new.fault_count w.holds;
+  tells = tt;
   told = λ d e is is_new premises.
       let since = w.told d e is is_new premises in
       record {
@@ -110,6 +111,7 @@ runs_unasked form refusal ended dev input out un status line =
     (record {
       begins = refused_by (made_by form) form refusal dev input un;
       holds = tt;
+      tells = tt;
       told = λ d e is is_new premises. inl (some_is e d (sym is_new ∙ is));
     })
 

@@ -1,10 +1,8 @@
 -- When a command that runs sessions ends well: nothing fails, its input is a script, its volume is
 -- there or can be made, and there is enough of all (this project's profile).
-use Rattle.std.specs.Prelude.{◌≡◌, ◌≤◌, ℕ, Bool, true, List, [], ◌∷◌, length, drop, Option, None, Some, Ok, IsOk, IfSome, IsSomeAnd}
+use Rattle.std.specs.Prelude.{◌≡◌, ◌≤◌, ℕ, List, length, Option, None, Some, Ok, IsOk, IsSomeAnd}
 use Rattle.spec_faults.specs.Faults.{Rose}
 use Rattle.spec_disk.specs.Images.{IsSettled}
-use Rattle.spec_disk.specs.declared.event.Event.{Event}
-use Rattle.spec_disk.specs.declared.event.Event.TheVariants.{Write, Sync}
 use Rattle.spec_record.specs.declared.geometry.Geometry.{Geometry}
 use Rattle.spec_record.specs.Geometry.{total_blocks}
 use Rattle.spec_script.specs.Grammar.{script_of}
@@ -49,25 +47,9 @@ IsEnough (NotBegun refusal) = Unit {0}
 IsEnough (OutOfMemory run next) = Unit {0}
 IsEnough (Done run next) = HasEnough run.lines run.history next
 
--- whether a write or a sync answered Ok
-abbrev pub is_ok : Event → Bool
-is_ok (Write at bytes ok) = ok
-is_ok (Sync ok) = ok
-
--- each of these did
-abbrev pub AreOk : List Event → Type 0
-AreOk [] = Unit {0}
-AreOk (e ∷ es) = (is_ok e ≡ true) × AreOk es
-
--- a device that tells tells that each of its writes and syncs since then answered Ok
-abbrev pub HaveGone : Option Disk → Option Disk → Type 0
-HaveGone old new =
-    IfSome old (λ d. IsSomeAnd new (λ e. AreOk (drop (length d.trace) e.trace)))
-
 -- no call of the device, the source or the sink failed
 pub record NothingFailed (old new : Seen) (input out : Change) : Type 0 where
   pub device : ¬ Rose old.fault_count new.fault_count
-  pub told : HaveGone old.told new.told
   pub source : ¬ Rose input.faults_before input.faults_after
   pub sink : ¬ Rose out.faults_before out.faults_after
 

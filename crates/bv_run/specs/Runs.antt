@@ -1,6 +1,6 @@
 -- What a command that runs sessions does: its clause, of which the headline is a part (this project's
 -- profile).
-use Rattle.std.specs.Prelude.{◌≡◌, ℕ, Option, Some}
+use Rattle.std.specs.Prelude.{◌≡◌, ℕ, Option, Some, IfSome, IsSomeAnd}
 use Rattle.spec_record.specs.declared.geometry.Geometry.{Geometry}
 use Rattle.spec_headline.specs.Run.{Ended, CutShort}
 use Rattle.bv_device.specs.Seen.{Seen}
@@ -21,6 +21,12 @@ Holds (NotBegun refusal) first last = Unit {0}
 Holds (OutOfMemory run next) first last = CutShort run next first last
 Holds (Done run next) first last = Ended run next first last
 
+-- behind a run that was done a device that told still tells
+abbrev pub StillTells : Answer → Option Disk → Option Disk → Type 0
+StillTells (NotBegun refusal) old new = Unit {0}
+StillTells (OutOfMemory run next) old new = Unit {0}
+StillTells (Done run next) old new = IfSome old (λ d. IsSomeAnd new (λ e. Unit {0}))
+
 -- What became of the device, `old` and `new`, by an answer, where a volume of such counts is made first,
 -- or the one that is there is taken.
 pub record Went (made : Option Geometry) (answer : Answer) (old new : Seen) : Type 0 where
@@ -28,6 +34,8 @@ pub record Went (made : Option Geometry) (answer : Answer) (old new : Seen) : Ty
   pub begins : BeginsBy made answer old new
   -- the history is legal, with each session's commands in order, and each line has its result
   pub holds : Holds answer old.fault_count new.fault_count
+  -- a device that told still does
+  pub tells : StillTells answer old.told new.told
   -- wherever the machine stops, and once all is done
   pub told : (d e : Disk) → old.told ≡ Some d → new.told ≡ Some e → Premises made d
       → IsTold made answer d e

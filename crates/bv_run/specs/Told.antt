@@ -4,12 +4,11 @@ use Rattle.spec_disk.specs.declared.event.Event.{Event}
 use Rattle.spec_disk.specs.Disk.{Blocks}
 use Rattle.spec_disk.specs.Images.{IsSettled}
 use Rattle.spec_record.specs.declared.geometry.Geometry.{Geometry}
-use Rattle.spec_core.specs.History.{History, last_state}
+use Rattle.spec_core.specs.History.{History}
 use Rattle.spec_crash.specs.Format.{FormatStop, IsEmptyVolume}
-use Rattle.spec_headline.specs.Run.{HasSoundBlobs, HasWholeBlobs, MetMismatch, Run, Seen}
+use Rattle.spec_headline.specs.Run.{HasSoundBlobs, HasWholeBlobs, MetMismatch, Seen}
 use Rattle.spec_headline.specs.Headline.{Headline, Survives, LeavesSettled, LeavesSound, IsUnmounted}
 use Rattle.bv_device.specs.Told.{Disk, now_of, disk_with}
-use Rattle.bv_session.specs.Disk.{ReadsRightThroughout}
 use Rattle.bv_run.specs.Reports.{Answer, NotBegun, OutOfMemory, Done}
 
 -- The premises: with a volume that is there, the device is settled, and the volume well formed and each
@@ -32,24 +31,12 @@ IsOpening None d made = made ≡ d
 IsOpening (Some g) d made =
     IsMaking (Some g) d made × IsSettled made.trace × IsEmptyVolume g (now_of made)
 
--- What the results of a run say of the device that told of these events: while none of its writes
--- fails and nothing stops the volume, a mismatch is the first failure of the first window that
--- doesn't verify there, and the bytes of a read are those of the blob
-abbrev pub IsSeen : Blocks → List Event → Run → ℕ → Type 0
-IsSeen base events run next =
-    ReadsRightThroughout events → (last_state run.history next).stopped ≡ None
-    → Seen base events run
-
--- while none of these events failed and nothing stopped the volume, a run over a volume each of whose
--- blobs was sound meets no mismatch
-abbrev pub MeetsNone : Blocks → List Event → Run → ℕ → Type 0
-MeetsNone base events run next =
-    ReadsRightThroughout events → (last_state run.history next).stopped ≡ None
-    → HasSoundBlobs base → ¬ MetMismatch run
-
--- what holds of the device's events from the sessions' disk on, which blobs are there, whole and
--- sound, after `unmounted`, and what the results say of the device; a run that was refused has no
--- event of its own, and each stop leaves the blobs that there were
+-- What holds of the device's events from the sessions' disk on, and which blobs are there, whole and
+-- sound, after `unmounted`. The results say of the device what they should, also once a write or sync
+-- has failed: a mismatch is the first failure of the first window that doesn't verify there, and the
+-- bytes of a read are those of the blob. Over a volume each of whose blobs was sound there is no
+-- mismatch. A run that was refused has no event of its own, and each stop leaves the blobs that there
+-- were.
 abbrev pub HoldsFrom : Blocks → List Event → Answer → Type 0
 HoldsFrom base events (NotBegun refusal) =
     (h : History) × (next : ℕ) × (h.events ≡ []) × Survives base events h next
@@ -58,8 +45,8 @@ HoldsFrom base events (Done run next) =
     Headline base events run next
     × (IsUnmounted run.history
     → LeavesSettled base events run.history × LeavesSound base events run.history)
-    × IsSeen base events run next
-    × MeetsNone base events run next
+    × Seen base events run
+    × (HasSoundBlobs base → ¬ MetMismatch run)
 
 -- what holds from the sessions' disk on
 pub record HoldsSince (made : Option Geometry) (answer : Answer) (d e : Disk) : Type 0 where
